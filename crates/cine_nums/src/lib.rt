@@ -1,0 +1,22 @@
+//! The numbers and names that every part of the encoder shares: the two cinema profiles of
+//! ISO/IEC 15444-1, Annex A, the orientation of a band, the byte budgets of a frame, and halving
+//! with its rounding.
+//!
+//! Every call answers the value of a definition in `specs/`, takes no memory and refuses nothing.
+//!
+//! ```
+//! assert_eq!(Profile::TwoK.levels(), 5);
+//! assert_eq!(half_up(1080), 540);
+//! assert_eq!(half_up(135), 68);
+//! ```
+#![tactic(auto)]
+
+mod budget;
+mod halves;
+mod orient;
+mod profile;
+
+pub use budget::Budget;
+pub use halves::{half_down, half_up};
+pub use orient::Orient;
+pub use profile::Profile;
