@@ -1,0 +1,4 @@
+pub mod Cause
+pub mod Names
+pub mod Outputs
+pub mod Source
