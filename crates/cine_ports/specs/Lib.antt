@@ -1,4 +1,5 @@
 pub mod Cause
+pub mod Moves
 pub mod Names
 pub mod Outputs
 pub mod Source

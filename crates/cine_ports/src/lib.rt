@@ -4,10 +4,12 @@
 
 mod fault;
 mod frames;
+mod moves;
 mod outputs;
 mod report;
 
 pub use fault::{Failed, PortFault};
 pub use frames::Frames;
+pub use moves::{read_fully, say, write_all};
 pub use outputs::Outputs;
 pub use report::Report;
