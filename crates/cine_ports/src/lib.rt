@@ -3,13 +3,27 @@
 #![tactic(auto)]
 
 mod fault;
+mod fault_plan;
 mod frames;
+mod memory_frame;
+mod memory_frames;
+mod memory_outputs;
+mod memory_report;
 mod moves;
+mod null;
 mod outputs;
 mod report;
+mod shelf;
+mod steady_frames;
 
 pub use fault::{Failed, PortFault};
 pub use frames::Frames;
+pub use memory_frame::MemoryFrame;
+pub use memory_frames::MemoryFrames;
+pub use memory_outputs::MemoryOutputs;
+pub use memory_report::MemoryReport;
 pub use moves::{read_fully, say, write_all};
+pub use null::{NullOutputs, NullReport};
 pub use outputs::Outputs;
 pub use report::Report;
+pub use steady_frames::SteadyFrames;
