@@ -1,4 +1,5 @@
 pub mod Cause
+pub mod Folder
 pub mod Memory
 pub mod Moves
 pub mod Names

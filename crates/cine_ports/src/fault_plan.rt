@@ -1,34 +1,28 @@
-// Counts of faults, and calls that are to fail.
+// Calls that are to fail.
 ghost use Rattle.std.specs.Prelude.{◌≡◌, ◌+◌, ◌-◌, ◌^◌, ◌↔◌, ◌<◌, ℕ, [], min, IsErr, Contains};
-ghost use Rattle.cine_ports.specs.Cause.{HasFaultCause, Rose};
+ghost use Rattle.cine_ports.specs.Cause.{HasFaultCause};
 
 use crate::Failed;
-
-/// A count of faults after one more. It stays at its last value.
-pub(crate) fn raised(faults: u64) -> u64
-    ensures { Rose faults result }
-{
-    faults.saturating_add(1)
-}
+use crate::fault_count::FaultCount;
 
 /// Which calls of an object in memory fail, by their numbers from 0, and how many there were.
 #[derive(Debug, Drop)]
 pub(crate) struct FaultPlan {
     failing: Vec<u32>,
     calls: u64,
-    faults: u64,
+    faults: FaultCount,
 }
 
 impl FaultPlan {
     pub(crate) fn new(failing: Vec<u32>) -> FaultPlan
         ensures failing { result.failing.items ≡ failing.items }
         ensures calls { result.calls ≡ 0 }
-        ensures faults { result.faults ≡ 0 }
+        ensures faults { result.faults.count ≡ 0 }
     {
         FaultPlan {
             failing,
             calls: 0,
-            faults: 0,
+            faults: FaultCount::new(),
         }
     }
 
@@ -37,13 +31,12 @@ impl FaultPlan {
         ensures exactly { IsErr result ↔ Contains self.old.failing.items self.old.calls }
         ensures calls { self.new.calls ≡ min (self.old.calls + 1) (2 ^ 64 - 1) }
         ensures failing { self.new.failing.items ≡ self.old.failing.items }
-        ensures cause { HasFaultCause self.old.faults self.new.faults result }
+        ensures cause { HasFaultCause self.old.faults.count self.new.faults.count result }
     {
         let call = self.calls;
         self.calls = call.saturating_add(1);
         if self.failing.iter().any(|n| u64::from(*n) == call) {
-            self.faults = raised(self.faults);
-            return Err(Failed);
+            return Err(self.faults.fail());
         }
         Ok(())
     }

@@ -24,7 +24,7 @@ impl Model for MemoryFrames {
     ghost view = { λ f. record {
       source = told_source f.shelf.files.items f.shelf.is_listed;
       reading = told_reading f.shelf.files.items f.shelf.asked f.shelf.is_begun f.shelf.at;
-      faults = f.plan.faults;
+      faults = f.plan.faults.count;
       calls = f.plan.calls;
       failing = f.plan.failing.items;
     } };

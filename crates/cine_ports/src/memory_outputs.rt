@@ -26,7 +26,7 @@ impl Model for MemoryOutputs {
 
     ghost view = { λ o. record {
       kept = record { finished = o.finished.items; unfinished = o.unfinished };
-      faults = o.plan.faults;
+      faults = o.plan.faults.count;
       calls = o.plan.calls;
       failing = o.plan.failing.items;
     } };

@@ -23,7 +23,7 @@ impl Model for MemoryReport {
 
     ghost view = { λ r. record {
       said = r.bytes.items;
-      faults = r.plan.faults;
+      faults = r.plan.faults.count;
       calls = r.plan.calls;
       failing = r.plan.failing.items;
     } };
