@@ -1,4 +1,6 @@
 pub mod Cause
+pub mod Folder
+pub mod Memory
 pub mod Moves
 pub mod Names
 pub mod Outputs
