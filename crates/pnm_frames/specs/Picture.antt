@@ -21,6 +21,13 @@ pub record IsPlane (count : ℕ) (samples : List ℕ) : Type 0 where
   pub size : length samples ≡ count
   pub range : All IsSample samples
 
+-- a size in samples within limits, of at least 1 each way
+pub record IsWithin (limits : SizeLimits) (width height : ℕ) : Type 0 where
+  pub some_width : 1 ≤ width
+  pub width_in_limits : width ≤ limits.width
+  pub some_height : 1 ≤ height
+  pub height_in_limits : height ≤ limits.height
+
 -- each side is at least 1 and at most its limit, and each plane has a sample for each pixel
 pub record Fits (limits : SizeLimits) (p : Picture) : Type 0 where
   pub has_width : 1 ≤ p.width

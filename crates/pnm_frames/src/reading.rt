@@ -3,7 +3,7 @@ ghost use Rattle.std.specs.Prelude.{[], ◌≡◌, ◌≤◌, IsTrue, IsSome, If
 ghost use Rattle.cine_ports.specs.Moves.{IsEndOf};
 ghost use Rattle.pnm_frames.specs.Fault.{Gives, HasFrameCause};
 ghost use Rattle.pnm_frames.specs.Keeps.{ReadsOn};
-ghost use Rattle.pnm_frames.specs.Picture.{Fits, Picture, spelling};
+ghost use Rattle.pnm_frames.specs.Picture.{Fits, IsWithin, Picture, spelling};
 ghost use Rattle.pnm_frames.specs.Reading.{frame_of};
 ghost use Rattle.pnm_frames.specs.View.{picture_of};
 
@@ -24,6 +24,7 @@ fn read_all<F: Frames>(alloc: Global, f: &mut F, limits: SizeLimits) -> Result<F
     ensures found { IfOk result (λ frame. IsSome (F.source f.old).files →
         Fits limits (picture_of frame) × ((F.reading f.old).left ≡ spelling (picture_of frame))) }
     ensures exact { IsSome (F.source f.old).files → Gives picture_of result (frame_of limits (F.reading f.old).left) }
+    ensures sizes { IfOk result (λ frame. IsWithin limits frame.width frame.height) }
     ensures keeps { ReadsOn (F.source f.old) (F.source f.new) (F.reading f.old) (F.reading f.new) }
     ensures cause { HasFrameCause (F.faults f.old) (F.faults f.new) result }
 {
@@ -56,6 +57,8 @@ pub fn read_frame<F: Frames>(
         (F.reading f.old).left ≡ spelling p → Gives picture_of result (Ok p) }
     // Which of the two it is.
     ensures exact { IsSome (F.source f.old).files → Gives picture_of result (frame_of limits (F.reading f.old).left) }
+    // Also of a source that doesn't tell its files.
+    ensures sizes { IfOk result (λ frame. IsWithin limits frame.width frame.height) }
     ensures begun { IsTrue (F.reading f.new).is_begun }
     ensures asked { (F.reading f.new).asked ≡ (F.reading f.old).asked }
     ensures source { F.source f.new ≡ F.source f.old }

@@ -1,0 +1,10 @@
+pub mod Codestream
+pub mod Fields
+pub mod Line
+pub mod MainHeader
+pub mod Progress
+pub mod Put
+pub mod Run
+pub mod Stop
+pub mod Visit
+pub mod Words

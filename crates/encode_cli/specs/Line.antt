@@ -1,0 +1,48 @@
+-- The lines of the report. Fields are separated by one space, numbers are decimal, LF ends a line.
+use Rattle.std.specs.Prelude.{ℕ, ◌+◌, ◌/◌, ◌%◌, ◌||◌, ◌&&◌, ◌==◌, nat_le, nat_lt, List, [], ◌∷◌, ◌++◌, if◌then◌else◌, Bool, codes, decimal}
+use Rattle.std.specs.List.{flat_map}
+use Rattle.encode_cli.specs.declared.limits.TheConstants.{FRAME_LIMIT, COMPONENT_LIMIT}
+
+-- whether a byte of a name is printed as it is: ASCII letters, digits, '.', '_' and '-'
+abbrev pub is_plain : ℕ → Bool
+is_plain b =
+    (nat_le 97 b && nat_le b 122) || (nat_le 65 b && nat_le b 90) || (nat_le 48 b && nat_le b 57)
+    || b == 46 || b == 95 || b == 45
+
+-- a hexadecimal digit, in upper case
+abbrev pub hex_digit : ℕ → ℕ
+hex_digit n = if nat_lt n 10 then 48 + n else 55 + n
+
+-- a byte of a name as it is printed: '%' and two digits for one that isn't plain
+abbrev pub escaped_byte : ℕ → List ℕ
+escaped_byte b = if is_plain b then b ∷ [] else 37 ∷ hex_digit (b / 16) ∷ hex_digit (b % 16) ∷ []
+
+-- a name as it is printed
+abbrev pub escaped : List ℕ → List ℕ
+escaped name = flat_map escaped_byte name
+
+-- a budget: its name, the bytes held of it, its limit in bytes, and the price of a byte, which is 0
+abbrev pub budget : List ℕ → ℕ → ℕ → List ℕ
+budget name held limit = name ++ (codes "=" ++ (decimal held ++ (codes "/" ++ (decimal limit ++ codes "/0"))))
+
+-- how the line of a frame that was written begins: its name, its profile, its size in samples
+abbrev pub ok_head : List ℕ → ℕ → ℕ → List ℕ
+ok_head name width height =
+    codes "ok " ++ (escaped name ++ (codes " 2k " ++ (decimal width ++ (codes "x" ++ decimal height))))
+
+-- the budgets of a codestream of so many bytes whose tile-parts have so many bytes each
+abbrev pub budgets : ℕ → ℕ → List ℕ
+budgets frame part =
+    budget (codes "frame") frame FRAME_LIMIT
+    ++ (codes " " ++ (budget (codes "c0") part COMPONENT_LIMIT
+    ++ (codes " " ++ (budget (codes "c1") part COMPONENT_LIMIT
+    ++ (codes " " ++ budget (codes "c2") part COMPONENT_LIMIT)))))
+
+-- the line of a frame that was written without any coding pass
+abbrev pub ok_line : List ℕ → ℕ → ℕ → ℕ → ℕ → List ℕ
+ok_line name width height frame part =
+    ok_head name width height ++ (codes " " ++ (budgets frame part ++ codes " passes=0\n"))
+
+-- the line of a file that isn't a plain frame
+abbrev pub refused_line : List ℕ → List ℕ
+refused_line name = codes "refused " ++ (escaped name ++ codes " 90 NotPlain\n")

@@ -1,0 +1,29 @@
+-- What a run promises of its three objects, where they tell what they hold.
+use Rattle.std.specs.Prelude.{ℕ, ◌≡◌, List, Option, IfSome, take}
+use Rattle.std.specs.List.{flat_map}
+use Rattle.cine_ports.specs.Cause.{Rose}
+use Rattle.cine_ports.specs.Source.{File}
+use Rattle.cine_ports.specs.Outputs.{Kept}
+use Rattle.encode_cli.specs.Stop.{Counts}
+use Rattle.encode_cli.specs.Visit.{outputs_of, Point, IsPoint, kept_at, said_at}
+use Rattle.encode_cli.specs.Progress.{visits_of, said_after, IsPointAt}
+
+-- The run broke off at place n of these files: the frames before it are written and said, whole and in order.
+-- With the next one it came to a point: of its codestream a front is written, or of its line a proper front is
+-- said, or neither.
+pub record StopsAt (files : List File) (n : ℕ) (kept_now : Option Kept) (said_now : Option (List ℕ)) : Type 0 where
+  pub point : Point
+  pub is_point : IsPoint point
+  pub place : IsPointAt (visits_of files) n point
+  pub kept : IfSome kept_now (λ kept. kept ≡ kept_at point (flat_map outputs_of (take n (visits_of files))))
+  pub said : IfSome said_now (λ said. said ≡ said_at point (said_after (take n (visits_of files))))
+
+-- Why a run ended with this status: 3, 4 and 5 only where the count of faults of that object rose, and each
+-- other count is as it was.
+pub record HasStatusCause (old new : Counts) (status : ℕ) : Type 0 where
+  pub source : status ≡ 3 → Rose old.frames new.frames
+  pub source_same : (status ≡ 3 → ⊥) → new.frames ≡ old.frames
+  pub outputs : status ≡ 4 → Rose old.outputs new.outputs
+  pub outputs_same : (status ≡ 4 → ⊥) → new.outputs ≡ old.outputs
+  pub report : status ≡ 5 → Rose old.report new.report
+  pub report_same : (status ≡ 5 → ⊥) → new.report ≡ old.report

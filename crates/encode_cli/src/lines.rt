@@ -1,0 +1,98 @@
+// The lines of the report.
+ghost use Rattle.std.specs.Prelude.{◌≡◌, ◌<◌, ◌++◌, IfOk, OnOk, IsTrue, string_bytes};
+ghost use Rattle.encode_cli.specs.Line.{is_plain, hex_digit, escaped_byte, escaped, budget, budgets, ok_head, ok_line, refused_line};
+
+use crate::limits::{COMPONENT_LIMIT, FRAME_LIMIT};
+use std::alloc::{AllocError, Global};
+
+/// Whether a byte of a name is printed as it is.
+fn is_plain(byte: u8) -> bool
+    ensures { result ≡ is_plain byte }
+{
+    byte.is_ascii_alphanumeric() || matches!(byte, b'.' | b'_' | b'-')
+}
+
+/// A number below 16 as a hexadecimal digit in upper case.
+fn hex_digit(n: u8) -> u8
+    requires { n < 16 }
+    ensures { result ≡ hex_digit n }
+{
+    if n < 10 { b'0' + n } else { b'A' - 10 + n }
+}
+
+/// Appends a byte of a name as it is printed.
+fn push_escaped(out: &mut String, byte: u8) -> Result<(), AllocError>
+    ensures { OnOk result (string_bytes out.new ≡ string_bytes out.old ++ escaped_byte byte) }
+{
+    if is_plain(byte) {
+        out.push(char::from(byte))?;
+    } else {
+        out.push('%')?;
+        out.push(char::from(hex_digit(byte / 16)))?;
+        out.push(char::from(hex_digit(byte % 16)))?;
+    }
+    Ok(())
+}
+
+/// A name as it is printed: bytes other than ASCII letters, digits, `.`, `_` and `-` become `%` and two
+/// hexadecimal digits.
+fn escaped(alloc: Global, name: &str) -> Result<String, AllocError>
+    ensures { IfOk result (λ text. string_bytes text ≡ escaped name.now) }
+{
+    let mut out = String::new(alloc);
+    for byte in name.as_bytes() {
+        push_escaped(&mut out, *byte)?;
+    }
+    Ok(out)
+}
+
+/// A budget of bytes: how many are held, its limit, and the price of a byte, which is 0.
+fn budget(alloc: Global, name: &str, held: u32, limit: u32) -> Result<String, AllocError>
+    ensures { IfOk result (λ text. string_bytes text ≡ budget name.now held limit) }
+{
+    format!(in alloc; "{name}={held}/{limit}/0")
+}
+
+/// How the line of a frame that was written begins: its name, its profile, its size in samples.
+fn ok_head(alloc: Global, name: &str, width: u32, height: u32) -> Result<String, AllocError>
+    ensures { IfOk result (λ text. string_bytes text ≡ ok_head name.now width height) }
+{
+    let name = escaped(alloc, name)?;
+    format!(in alloc; "ok {name} 2k {width}x{height}")
+}
+
+/// The budgets of a codestream of `frame` bytes whose tile-parts have `part` bytes each.
+fn budgets(alloc: Global, frame: u32, part: u32) -> Result<String, AllocError>
+    ensures { IfOk result (λ text. string_bytes text ≡ budgets frame part) }
+{
+    let frame = budget(alloc, "frame", frame, FRAME_LIMIT)?;
+    let c0 = budget(alloc, "c0", part, COMPONENT_LIMIT)?;
+    let c1 = budget(alloc, "c1", part, COMPONENT_LIMIT)?;
+    let c2 = budget(alloc, "c2", part, COMPONENT_LIMIT)?;
+    format!(in alloc; "{frame} {c0} {c1} {c2}")
+}
+
+/// The line of a frame that was written: its name, its size in samples, and how many bytes its codestream
+/// and each of its tile-parts hold.
+pub fn ok_line(
+    alloc: Global,
+    name: &str,
+    width: u32,
+    height: u32,
+    frame: u32,
+    part: u32,
+) -> Result<String, AllocError>
+    ensures { IfOk result (λ line. string_bytes line ≡ ok_line name.now width height frame part) }
+{
+    let head = ok_head(alloc, name, width, height)?;
+    let budgets = budgets(alloc, frame, part)?;
+    format!(in alloc; "{head} {budgets} passes=0\n")
+}
+
+/// The line of a file that isn't a plain frame.
+pub fn refused_line(alloc: Global, name: &str) -> Result<String, AllocError>
+    ensures { IfOk result (λ line. string_bytes line ≡ refused_line name.now) }
+{
+    let name = escaped(alloc, name)?;
+    format!(in alloc; "refused {name} 90 NotPlain\n")
+}

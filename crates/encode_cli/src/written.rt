@@ -1,0 +1,79 @@
+// What is written and said of one frame.
+ghost use Rattle.std.specs.Prelude.{Option, ◌≡◌, ◌≤◌, ◌++◌, [], ◌∷◌, false, map, option_map, Contains, OnOk, OnErr, IfOk, string_bytes, codes};
+ghost use Rattle.std.specs.Option.{ForSome};
+ghost use Rattle.cine_ports.specs.Moves.{said_with};
+ghost use Rattle.cine_ports.specs.Outputs.{Kept};
+ghost use Rattle.pnm_frames.specs.Fault.{NotPlain};
+ghost use Rattle.encode_cli.specs.Put.{kept_and};
+ghost use Rattle.encode_cli.specs.Stop.{HasStopCause, counts};
+ghost use Rattle.encode_cli.specs.Visit.{output_name, outputs_of, line_of, accepted, refused, BrokenOff};
+
+use crate::codestream::empty_codestream;
+use crate::lines::{ok_line, refused_line};
+use crate::put::put_output;
+use crate::stop::Stop;
+use cine_ports::{Outputs, Report, say};
+use pnm_frames::Frame;
+use std::alloc::{AllocError, Global};
+
+/// The name of a frame's output.
+fn output_name(alloc: Global, name: &str) -> Result<String, AllocError>
+    ensures { IfOk result (λ text. string_bytes text ≡ output_name name.now) }
+{
+    format!(in alloc; "{name}.j2c")
+}
+
+/// Writes the codestream of a frame, and then says its line.
+pub fn write_frame<O: Outputs, S: Report>(
+    alloc: Global,
+    name: &str,
+    frame: &Frame,
+    outputs: &mut O,
+    report: &mut S,
+) -> Result<(), Stop>
+    requires some_width { 1 ≤ frame.now.width }
+    requires width { frame.now.width ≤ 2048 }
+    requires some_height { 1 ≤ frame.now.height }
+    requires height { frame.now.height ≤ 1080 }
+    requires closed { O.is_open outputs.old ≡ false }
+    requires at_rest { ForSome (O.kept outputs.old) (λ kept. kept.unfinished ≡ None) }
+    requires other_name { ForSome (O.kept outputs.old)
+        (λ kept. ¬ Contains (map (λ file. file.name) kept.finished) (output_name name.now)) }
+    ensures written { OnOk result (O.kept outputs.new
+        ≡ option_map (kept_and (outputs_of (accepted name.now frame.now))) (O.kept outputs.old)) }
+    ensures said { OnOk result (S.said report.new
+        ≡ option_map (said_with (line_of (accepted name.now frame.now))) (S.said report.old)) }
+    ensures closed { OnOk result (O.is_open outputs.new ≡ false) }
+    ensures err { OnErr result (BrokenOff (accepted name.now frame.now)
+        (O.kept outputs.old) (O.kept outputs.new) (S.said report.old) (S.said report.new)) }
+    ensures cause { HasStopCause (counts 0 (O.faults outputs.old) (S.faults report.old))
+        (counts 0 (O.faults outputs.new) (S.faults report.new)) result }
+{
+    let output = output_name(alloc, name)?;
+    let made = empty_codestream(alloc, frame.width, frame.height)?;
+    let held = made.bytes.len() as u32;
+    let line = ok_line(alloc, name, frame.width, frame.height, held, made.part)?;
+    match put_output(outputs, output.as_str(), made.bytes.as_slice()) {
+        Ok(()) => {}
+        Err(fault) => return Err(Stop::of_outputs(fault)),
+    }
+    match say(report, line.as_bytes()) {
+        Ok(()) => Ok(()),
+        Err(fault) => Err(Stop::of_report(fault)),
+    }
+}
+
+/// Says the line of a frame that is refused.
+pub fn refuse<S: Report>(alloc: Global, name: &str, report: &mut S) -> Result<(), Stop>
+    ensures said { OnOk result (S.said report.new
+        ≡ option_map (said_with (line_of (refused name.now NotPlain))) (S.said report.old)) }
+    ensures err { (kept : Option Kept) → OnErr result (BrokenOff (refused name.now NotPlain)
+        (option_map (kept_and []) kept) (option_map (kept_and []) kept) (S.said report.old) (S.said report.new)) }
+    ensures cause { HasStopCause (counts 0 0 (S.faults report.old)) (counts 0 0 (S.faults report.new)) result }
+{
+    let line = refused_line(alloc, name)?;
+    match say(report, line.as_bytes()) {
+        Ok(()) => Ok(()),
+        Err(fault) => Err(Stop::of_report(fault)),
+    }
+}
