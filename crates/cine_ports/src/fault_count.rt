@@ -8,7 +8,7 @@ use std::io;
 /// How often the calls of an object failed. The count stays at its last value, 2^64 - 1.
 #[derive(Debug, Drop)]
 pub(crate) struct FaultCount {
-    count: u64,
+    pub(crate) count: u64,
 }
 
 impl FaultCount {

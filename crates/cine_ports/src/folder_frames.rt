@@ -1,6 +1,7 @@
 // Frames that lie in a folder.
-ghost use Rattle.std.specs.Prelude.{map};
+ghost use Rattle.std.specs.Prelude.{List, ℕ, map, IfSome, IfNone};
 ghost use Rattle.std.specs.String.{string_bytes};
+ghost use Rattle.cine_ports.specs.Folder.{IsStem};
 ghost use Rattle.cine_ports.specs.Names.{IsNameList};
 
 use crate::fault_count::FaultCount;
@@ -26,7 +27,7 @@ pub struct FolderFrames<R: Files + AllocGlobal + Clone + Drop> {
     is_listed: bool,
     asked: u32,
     file: Option<R::File>,
-    faults: FaultCount,
+    pub(crate) faults: FaultCount,
     ghost in_order: { IsNameList (map string_bytes names.items) },
 }
 
@@ -55,18 +56,29 @@ impl<R: Files + AllocGlobal + Clone + Drop> FolderFrames<R> {
     }
 }
 
+/// A file name without the suffix, where it ends in it and is longer.
+fn stem<'a>(file_name: &'a str, suffix: &str) -> Option<&'a str>
+    ensures found { IfSome result (λ name. IsStem file_name.now suffix.now name.now) }
+    ensures none { IfNone result ((name : List ℕ) → ¬ (IsStem file_name.now suffix.now name)) }
+{
+    match file_name.strip_suffix(suffix) {
+        Some(name) if !name.is_empty() => Some(name),
+        _ => None,
+    }
+}
+
 /// The name of an entry without the suffix, where it is a file with that suffix and a longer name.
 fn frame_name<'a, R: Files + AllocGlobal>(
     rt: &R,
     entry: &'a DirEntry<R>,
     suffix: &str,
 ) -> io::Result<Option<&'a str>> {
-    match entry.file_name().strip_suffix(suffix) {
-        Some(name) if !name.is_empty() => {
+    match stem(entry.file_name(), suffix) {
+        Some(name) => {
             let is_file = fs::metadata(rt, entry.path())?.is_file();
             Ok(if is_file { Some(name) } else { None })
         }
-        _ => Ok(None),
+        None => Ok(None),
     }
 }
 

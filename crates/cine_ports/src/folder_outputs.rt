@@ -54,7 +54,7 @@ pub struct FolderOutputs<R: Files + AllocGlobal + Clone + Drop> {
     folder: String,
     is_made: bool,
     part: Option<Part<R::File>>,
-    faults: FaultCount,
+    pub(crate) faults: FaultCount,
 }
 
 impl<R: Files + AllocGlobal + Clone + Drop> FolderOutputs<R> {

@@ -1,5 +1,19 @@
-//! The outside of the encoder as three traits: where frames come from, where codestreams go, and
-//! where the lines of a run go.
+//! The outside of the encoder as three traits: where frames come from (`Frames`), where codestreams
+//! go (`Outputs`), and where the lines of a run go (`Report`). Each stands in memory, where its bytes
+//! are told and chosen calls fail, and as a folder or standard output.
+//!
+//! A call answers Failed only where its object's count of faults rose in it, and any other answer
+//! leaves the count. So a run that ends at its first fault knows whose fault it was. What was moved
+//! before a fault is the front of what was asked for, byte for byte.
+//!
+//! ```
+//! frames.list()?;
+//! for i in 0..frames.count() {
+//!     frames.begin(i)?;
+//!     let n = read_fully(&mut frames, &mut buf)?;
+//!     say(&mut report, frames.name(i).as_bytes())?;
+//! }
+//! ```
 #![tactic(auto)]
 
 mod fault;
@@ -36,3 +50,6 @@ pub use outputs::Outputs;
 pub use report::Report;
 pub use stdout_report::StdoutReport;
 pub use steady_frames::SteadyFrames;
+
+#[cfg(test)]
+mod tests;

@@ -7,7 +7,7 @@ use std::io::Print;
 #[derive(Drop)]
 pub struct StdoutReport<R: Print + Drop> {
     rt: R,
-    faults: FaultCount,
+    pub(crate) faults: FaultCount,
 }
 
 impl<R: Print + Drop> StdoutReport<R> {
