@@ -11,11 +11,13 @@
 //! ```
 #![tactic(auto)]
 
+mod bits;
 mod budget;
 mod halves;
 mod orient;
 mod profile;
 
+pub use bits::bit_len;
 pub use budget::Budget;
 pub use halves::{half_down, half_up};
 pub use orient::Orient;
