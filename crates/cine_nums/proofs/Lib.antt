@@ -1,1 +1,2 @@
 pub mod BitLength
+mod Product
