@@ -1,0 +1,24 @@
+-- Sizes of resolutions and precincts (ISO/IEC 15444-1, B.5 and B.6), one direction at a time.
+use Rattle.std.specs.Prelude.{ℕ, zero, suc, ◌-◌, ◌^◌}
+use Rattle.cine_nums.specs.Division.{div_up}
+use Rattle.cine_nums.specs.declared.profile.Profile.{Profile}
+use Rattle.cine_nums.specs.declared.profile.Profile.TheVariants.{TwoK, FourK}
+
+-- the fewest levels that a codestream of the profile may have
+abbrev pub least_levels_of : Profile → ℕ
+least_levels_of TwoK = 0
+least_levels_of FourK = 1
+
+-- one side of resolution r, of a frame with this side and so many levels (B-14 with the image and
+-- the tile at the origin)
+abbrev pub res_side : ℕ → ℕ → ℕ → ℕ
+res_side levels side r = div_up side (2 ^ (levels - r))
+
+-- one side of a precinct of resolution r, in places of the resolution
+abbrev pub precinct_side : ℕ → ℕ
+precinct_side zero = 128
+precinct_side (suc _) = 256
+
+-- how many precincts resolution r has in one direction (B-16)
+abbrev pub precinct_count : ℕ → ℕ → ℕ → ℕ
+precinct_count levels side r = div_up (res_side levels side r) (precinct_side r)
