@@ -1,32 +1,32 @@
 -- The steps of the transform of a line, place by place.
-use Rattle.std.proofs.Common.{◌≡◌, ◌≢◌, ℕ, ◌+◌, ◌-◌, ◌*◌, ◌/◌, ◌%◌, ◌<◌, ◌≤◌, ℤ, pos, List, [], ◌∷◌, length, All, arith, refl, sym, ◌∙◌, ap, suc, zero, cond, nat_lt, inl, inr}
+use Rattle.std.proofs.Common.{◌≡◌, ◌≢◌, ℕ, ◌+◌, ◌-◌, ◌*◌, ◌/◌, ◌%◌, ◌<◌, ◌≤◌, ℤ, pos, List, [], ◌∷◌, length, All, arith, refl, sym, ◌∙◌, ap, suc, zero, inl, inr, zero-add}
 use Rattle.std.proofs.lemmas.List.{get_or-set_same, get_or-set_other, length-set, length-append, get_or_append_left, get_or-append-add, ext_get_or}
 use Rattle.std.proofs.lemmas.List.Elements.{All-set, All-from_get_or}
-use Rattle.std.proofs.lemmas.List.FromFn.{fill_by_all}
+use Rattle.std.proofs.lemmas.List.FromFn.{fill_by_all, get_or-map-range_with_len, length-map-range_with_len}
 use Rattle.std.proofs.lemmas.Bool.{cases_lt, cases_eq, lt-ltb, le-ltb}
 use Rattle.std.proofs.lemmas.Bool.Decides.{nat_tests}
 use Rattle.std.proofs.Math.ListN.{set}
 use Rattle.cine_nums.specs.Fixed.{Within30}
 use Rattle.lift97_fixed.proofs.Casts.{passed, passed_within, within_passed}
-use Rattle.lift97_fixed.specs.Line.{at, left_of, right_of, lifted, scaled, lifted_at, lift, scaled_at, scale, evens, odds, split, filtered, line_transform}
+use Rattle.lift97_fixed.specs.Line.{at, left_of, right_of, lifted, scaled, lifted_at, lift, scaled_at, scale, evens, odds, split, source_of, filtered, line_transform}
 
-on_parity : (c : ℤ) (p : ℕ) (xs : List ℤ) (i : ℕ) → i % 2 ≡ p → lifted_at c p xs i ≡ lifted c (at xs i) (at xs (left_of i)) (at xs (right_of (length xs) i))
+pub on_parity : (c : ℤ) (p : ℕ) (xs : List ℤ) (i : ℕ) → i % 2 ≡ p → lifted_at c p xs i ≡ lifted c (at xs i) (at xs (left_of i)) (at xs (right_of (length xs) i))
 on_parity c p xs i h = grind (arith, nat_tests)
 
-off_parity : (c : ℤ) (p : ℕ) (xs : List ℤ) (i : ℕ) → i % 2 ≢ p → lifted_at c p xs i ≡ at xs i
+pub off_parity : (c : ℤ) (p : ℕ) (xs : List ℤ) (i : ℕ) → i % 2 ≢ p → lifted_at c p xs i ≡ at xs i
 off_parity c p xs i h = grind (arith, nat_tests)
 
-left_parity : (i : ℕ) → left_of i % 2 ≢ i % 2
+pub left_parity : (i : ℕ) → left_of i % 2 ≢ i % 2
 left_parity zero e = omega arith
 left_parity (suc i) e = omega arith
 
-right_parity : (n i : ℕ) → 2 ≤ n → i < n → right_of n i % 2 ≢ i % 2
+pub right_parity : (n i : ℕ) → 2 ≤ n → i < n → right_of n i % 2 ≢ i % 2
 right_parity n i t h = grind (arith, nat_tests)
 
-right_inside : (n i : ℕ) → 2 ≤ n → i < n → right_of n i < n
+pub right_inside : (n i : ℕ) → 2 ≤ n → i < n → right_of n i < n
 right_inside n i t h = grind (arith, nat_tests)
 
-left_inside : (n i : ℕ) → 2 ≤ n → i < n → left_of i < n
+pub left_inside : (n i : ℕ) → 2 ≤ n → i < n → left_of i < n
 left_inside n zero t h = omega arith
 left_inside n (suc i) t h = omega arith
 
@@ -116,12 +116,20 @@ pub lift_all : (c : ℤ) (p n : ℕ) (old x : List ℤ) → length x ≤ n → L
 unfolding lift
 lift_all c p n old x h l = fill_by_all (lifted_at c p old) x (length old) (pos 0) l.size (λ k lt. l.done k (omega (arith, l.size)))
 
+pub at-lift : (c : ℤ) (p : ℕ) (xs : List ℤ) (i : ℕ) → i < length xs → at (lift c p xs) i ≡ lifted_at c p xs i
+unfolding lift
+at-lift c p xs i h = get_or-map-range_with_len (lifted_at c p xs) 0 (length xs) i i (pos 0) h (zero-add i)
+
+pub length-lift : (c : ℤ) (p : ℕ) (xs : List ℤ) → length (lift c p xs) ≡ length xs
+unfolding lift
+length-lift c p xs = length-map-range_with_len (lifted_at c p xs) 0 (length xs)
+
 -- ---- the scaling
 
-on_scale : (c : ℤ) (p : ℕ) (xs : List ℤ) (i : ℕ) → i % 2 ≡ p → scaled_at c p xs i ≡ scaled c (at xs i)
+pub on_scale : (c : ℤ) (p : ℕ) (xs : List ℤ) (i : ℕ) → i % 2 ≡ p → scaled_at c p xs i ≡ scaled c (at xs i)
 on_scale c p xs i h = grind (arith, nat_tests)
 
-off_scale : (c : ℤ) (p : ℕ) (xs : List ℤ) (i : ℕ) → i % 2 ≢ p → scaled_at c p xs i ≡ at xs i
+pub off_scale : (c : ℤ) (p : ℕ) (xs : List ℤ) (i : ℕ) → i % 2 ≢ p → scaled_at c p xs i ≡ at xs i
 off_scale c p xs i h = grind (arith, nat_tests)
 
 -- the scaling has come to place n
@@ -168,6 +176,14 @@ pub scale_all : (c : ℤ) (p n : ℕ) (old x : List ℤ) → length x ≤ n → 
 unfolding scale
 scale_all c p n old x h l = fill_by_all (scaled_at c p old) x (length old) (pos 0) l.size (λ k lt. l.done k (omega (arith, l.size)))
 
+pub at-scale : (c : ℤ) (p : ℕ) (xs : List ℤ) (i : ℕ) → i < length xs → at (scale c p xs) i ≡ scaled_at c p xs i
+unfolding scale
+at-scale c p xs i h = get_or-map-range_with_len (scaled_at c p xs) 0 (length xs) i i (pos 0) h (zero-add i)
+
+pub length-scale : (c : ℤ) (p : ℕ) (xs : List ℤ) → length (scale c p xs) ≡ length xs
+unfolding scale
+length-scale c p xs = length-map-range_with_len (scaled_at c p xs) 0 (length xs)
+
 -- ---- the split
 
 length-evens : (xs : List ℤ) → length (evens xs) ≡ length xs - length xs / 2
@@ -207,11 +223,7 @@ pub split-high : (xs : List ℤ) (n k : ℕ) → n ≡ length xs - length xs / 2
 unfolding split
 split-high xs n k h = rw (h, ← (length-evens xs)) (get_or-append-add (evens xs) (odds xs) k (pos 0) ∙ at-odds xs k)
 
--- which place of a line of n samples the split puts at place j
-abbrev pub source : ℕ → ℕ → ℕ
-source n j = cond (nat_lt j (n - n / 2)) (2 * j) (2 * (j - (n - n / 2)) + 1)
-
-pub split-at : (xs : List ℤ) (j : ℕ) → j < length xs → at (split xs) j ≡ at xs (source (length xs) j)
+pub split-at : (xs : List ℤ) (j : ℕ) → j < length xs → at (split xs) j ≡ at xs (source_of (length xs) j)
 split-at xs j h =
     elim (cases_lt j (length xs - length xs / 2)) [
       | inl low ↦ rw (lt-ltb j (length xs - length xs / 2) low) (split-low xs j low)
@@ -219,6 +231,25 @@ split-at xs j h =
           let e : j ≡ (length xs - length xs / 2) + (j - (length xs - length xs / 2)) = omega arith in
           rw (le-ltb j (length xs - length xs / 2) high) (ap (at (split xs)) e ∙ split-high xs (length xs - length xs / 2) (j - (length xs - length xs / 2)) refl)
     ]
+
+pub source_below : (n j : ℕ) → j < n → source_of n j < n
+source_below n j h = elim (cases_lt j (n - n / 2)) [
+  | inl low ↦ rw (lt-ltb j (n - n / 2) low) (omega arith)
+  | inr high ↦ rw (le-ltb j (n - n / 2) high) (omega arith)
+]
+
+-- two places take different samples
+pub source_apart : (n i j : ℕ) → i < n → j < n → source_of n i ≡ source_of n j → i ≡ j
+source_apart n i j hi hj = elim (cases_lt i (n - n / 2)) [
+  | inl a ↦ elim (cases_lt j (n - n / 2)) [
+    | inl b ↦ rw (lt-ltb i (n - n / 2) a, lt-ltb j (n - n / 2) b) (λ e. omega arith)
+    | inr b ↦ rw (lt-ltb i (n - n / 2) a, le-ltb j (n - n / 2) b) (λ e. omega arith)
+  ]
+  | inr a ↦ elim (cases_lt j (n - n / 2)) [
+    | inl b ↦ rw (le-ltb i (n - n / 2) a, lt-ltb j (n - n / 2) b) (λ e. omega arith)
+    | inr b ↦ rw (le-ltb i (n - n / 2) a, le-ltb j (n - n / 2) b) (λ e. omega arith)
+  ]
+]
 
 -- the split has gathered the first n low-pass samples
 pub record LowGathered (n : ℕ) (xs out : List ℤ) : Type 0 where

@@ -1,6 +1,6 @@
 -- The irreversible 9-7 wavelet transform of one line in fixed point: ISO/IEC 15444-1, Annex F.4 (1D_SD, 1D_EXTD,
 -- 1D_FILTD 9-7 and the split of 2D_DEINTERLEAVE).
-use Rattle.std.specs.Prelude.{ℕ, suc, zero, ◌+◌, ◌-◌, ◌%◌, ℤ, pos, negsuc, ◌+ℤ◌, List, [], ◌∷◌, ◌++◌, map, length, slice_index_or, nat_lt, nat_eq, if◌then◌else◌}
+use Rattle.std.specs.Prelude.{ℕ, suc, zero, ◌+◌, ◌-◌, ◌*◌, ◌/◌, ◌%◌, ℤ, pos, negsuc, ◌+ℤ◌, List, [], ◌∷◌, ◌++◌, map, length, slice_index_or, nat_lt, nat_eq, if◌then◌else◌}
 use Rattle.std.specs.List.{range_with_len}
 use Rattle.cine_nums.specs.Fixed.{mul16, limit30}
 
@@ -81,6 +81,10 @@ odds (x ∷ y ∷ rest) = y ∷ odds rest
 -- the low-pass samples, then the high-pass ones
 unfoldable pub split : List ℤ → List ℤ
 split xs = evens xs ++ odds xs
+
+-- the place of the sample that the split of n samples puts at place j
+abbrev pub source_of : ℕ → ℕ → ℕ
+source_of n j = if nat_lt j (n - n / 2) then (2 * j) else (2 * (j - (n - n / 2)) + 1)
 
 -- the transform of a line; a line of one sample is unchanged
 unfoldable pub line_transform : List ℤ → List ℤ

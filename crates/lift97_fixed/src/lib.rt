@@ -2,8 +2,9 @@
 //! behind the point.
 //!
 //! `forward_line` answers the transform of a line as `specs/Line.antt` defines it: four lifting steps,
-//! two scalings, then the low-pass samples followed by the high-pass ones. No call but `Plane::new`
-//! takes memory, and none refuses anything.
+//! two scalings, then the low-pass samples followed by the high-pass ones. `forward` answers that of a
+//! `Plane`, level after level, as `specs/Plane.antt` defines it: every column, then every row. Samples
+//! stay in -2^30 .. 2^30 - 1. No call but `Plane::new` takes memory, and none refuses anything.
 //!
 //! ```
 //! let mut line = [8192, 0];
@@ -13,5 +14,10 @@
 #![tactic(auto)]
 
 mod line;
+mod plane;
+mod transform;
+mod vertical;
 
 pub use line::forward_line;
+pub use plane::Plane;
+pub use transform::forward;

@@ -6,21 +6,21 @@ ghost use Rattle.lift97_fixed.specs.Line.{left_of, right_of, lifted, scaled, lif
 use cine_nums::{limit30, mul16};
 
 /// The lifting parameters, K and 1/K over 65,536.
-const ALPHA: i32 = -103949;
+pub const ALPHA: i32 = -103949;
 
-const BETA: i32 = -3472;
+pub const BETA: i32 = -3472;
 
-const GAMMA: i32 = 57862;
+pub const GAMMA: i32 = 57862;
 
-const DELTA: i32 = 29066;
+pub const DELTA: i32 = 29066;
 
-const K: i32 = 80621;
+pub const K: i32 = 80621;
 
-const INVERSE_K: i32 = 53274;
+pub const INVERSE_K: i32 = 53274;
 
 /// The place to the left of place `i`, mirrored at the start of the line.
 #[inline]
-fn left_of(i: usize) -> usize
+pub fn left_of(i: usize) -> usize
     ensures { result ≡ left_of i }
 {
     if i == 0 { 1 } else { i - 1 }
@@ -28,7 +28,7 @@ fn left_of(i: usize) -> usize
 
 /// The place to the right of place `i` of a line of `n` samples, mirrored at the end of the line.
 #[inline]
-fn right_of(n: usize, i: usize) -> usize
+pub fn right_of(n: usize, i: usize) -> usize
     requires line { 2 ≤ n }
     requires inside { i < n }
     ensures { result ≡ right_of n i }
@@ -39,7 +39,7 @@ fn right_of(n: usize, i: usize) -> usize
 /// A sample after a lifting step.
 #[inline]
 #[tactic(auto, unfolding(crate::specs::Line::lifted))]
-fn lifted(c: i32, cell: i32, left: i32, right: i32) -> i32
+pub fn lifted(c: i32, cell: i32, left: i32, right: i32) -> i32
     requires left { Within30 left }
     requires right { Within30 right }
     ensures value { result ≡ lifted c cell left right }
@@ -51,7 +51,7 @@ fn lifted(c: i32, cell: i32, left: i32, right: i32) -> i32
 /// A sample after the scaling.
 #[inline]
 #[tactic(auto, unfolding(crate::specs::Line::scaled))]
-fn scaled(c: i32, cell: i32) -> i32
+pub fn scaled(c: i32, cell: i32) -> i32
     ensures value { result ≡ scaled c cell }
     ensures within { Within30 result }
 {
