@@ -1,6 +1,9 @@
 // A plane of coefficients.
-ghost use Rattle.std.specs.Prelude.{◌≡◌, ◌*◌, ◌≤◌, false, length, replicate, IfOk};
+ghost use Rattle.std.specs.Prelude.{◌≡◌, ◌*◌, ◌<◌, ◌≤◌, ◌^◌, false, length, replicate, IfOk};
+ghost use Rattle.std.specs.List.{All};
+ghost use Rattle.frame_coefficients.specs.Energy.{energy};
 
+use crate::energy::energy;
 use dz_quantiser::Coef;
 use std::alloc::{AllocError, Global};
 
@@ -31,5 +34,19 @@ impl CoefPlane {
             height,
             cells,
         })
+    }
+
+    /// The distortion of the plane while no bit plane of any coefficient is known, in units of half a
+    /// step squared.
+    pub fn energy(&self) -> u128
+        requires { All (λ c. c.magnitude < 2 ^ 20) self.now.cells.items }
+        ensures value { result ≡ energy self.now.cells.items }
+        ensures small { result ≤ 2 ^ 66 }
+    {
+        energy(
+            self.cells.as_slice(),
+            self.width as usize,
+            self.height as usize,
+        )
     }
 }
