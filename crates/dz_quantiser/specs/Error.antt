@@ -1,4 +1,4 @@
--- The squared error of an index whose lowest bit planes are unknown (ISO/IEC 15444-1, Annex E.1.2: a
+-- The squared error of an index whose lowest bit planes are unknown (ISO/IEC 15444-1, Annex E.1: a
 -- decoder takes the middle of what the known planes leave, or 0 where they are all 0). The unit is half
 -- of a step.
 use Rattle.std.specs.Prelude.{ℕ, zero, suc, ◌+◌, ◌-◌, ◌*◌, ◌/◌, ◌^◌}

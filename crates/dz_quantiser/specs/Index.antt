@@ -1,9 +1,9 @@
--- The quantiser with a dead zone (ISO/IEC 15444-1, Annex E.1).
+-- The quantiser with a dead zone (ISO/IEC 15444-1, Annexes E.1 and E.2).
 use Rattle.std.specs.Prelude.{ℕ, ◌+◌, ◌-◌, ◌*◌, ◌/◌, ◌^◌, min, ℤ, pos, ◌&&◌, nat_lt, int_lt, unsigned_abs}
 use Rattle.dz_quantiser.specs.declared.steps.BandStep.{BandStep}
 use Rattle.dz_quantiser.specs.declared.coef.Coef.{Coef}
 
--- the size of a transformed sample over the step, rounded down (E-1). The sample has 13 bits behind
+-- the size of a transformed sample over the step, rounded down (E.2). The sample has 13 bits behind
 -- the point, and the step is 2 ^ (range - exponent) * (1 + mantissa / 2 ^ 11) (E-3)
 abbrev pub quotient : ℕ → BandStep → ℕ → ℕ
 quotient size step range =

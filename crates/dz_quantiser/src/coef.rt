@@ -35,7 +35,7 @@ fn quotient(size: u32, step: BandStep, range: u8) -> u32
 }
 
 /// The index of a transformed sample `y`, which has 13 bits behind the point, in a band with this step,
-/// [`range`](crate::range) and number of magnitude bit planes (ISO/IEC 15444-1, E-1).
+/// [`range`](crate::range) and number of magnitude bit planes (ISO/IEC 15444-1, Annex E.2).
 ///
 /// The size is that of `y` over the step, rounded down, and `2^planes - 1` where it would be more. The
 /// sign is that of `y`, and plus where the index is 0.

@@ -1,5 +1,5 @@
 -- The coefficients of a transformed plane: the index of each place, by the step of the band that it is in
--- (ISO/IEC 15444-1, Annexes B.5 and E.1). A plane is the list of its cells in raster order.
+-- (ISO/IEC 15444-1, Annexes B.5 and E.2). A plane is the list of its cells in raster order.
 use Rattle.std.specs.Prelude.{ℕ, zero, suc, ◌/◌, ◌%◌, max, ℤ, pos, List, map, length, slice_index_or, nat_lt, nat_eq, if◌then◌else◌}
 use Rattle.std.specs.List.{range_with_len}
 use Rattle.cine_nums.specs.declared.orient.Orient.{Orient}
