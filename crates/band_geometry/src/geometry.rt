@@ -1,5 +1,5 @@
 // The geometry of a frame: its resolutions and their precincts.
-ghost use Rattle.std.specs.Prelude.{◌≡◌, ◌<◌, ◌≤◌};
+ghost use Rattle.std.specs.Prelude.{ℕ, ◌*◌, ◌/◌, ◌≡◌, ◌<◌, ◌≤◌};
 ghost use Rattle.cine_nums.specs.Profile.{levels_of, max_width_of, max_height_of};
 ghost use Rattle.band_geometry.specs.Sizes.{least_levels_of, res_side, precinct_side, precinct_count};
 
@@ -27,6 +27,9 @@ pub struct Geometry {
 }
 
 impl Geometry {
+    ghost use Rattle.band_geometry.specs.Bands.{HasBand, block_columns, block_rows};
+    ghost use Rattle.cine_nums.specs.declared.orient.Orient.{Orient};
+
     /// The geometry of frames of `width` by `height` samples with so many levels.
     pub fn new(profile: Profile, levels: u8, width: u32, height: u32) -> Self
         requires enough_levels { least_levels_of profile ≤ levels }
@@ -69,6 +72,10 @@ impl Geometry {
         requires { res ≤ self.now.levels }
         ensures across { result.0 ≡ precinct_count self.now.levels self.now.width res }
         ensures down { result.1 ≡ precinct_count self.now.levels self.now.height res }
+        // Each block of each band of the resolution lies in one of them.
+        ensures enough { (o : Orient) (x y : ℕ) → HasBand self.now res o →
+            x < block_columns self.now res o → y < block_rows self.now res o →
+            (32 * x / 128 < result.0) × (32 * y / 128 < result.1) }
     {
         let (width, height) = self.res_size(res);
         (precincts_along(width, res), precincts_along(height, res))

@@ -10,7 +10,12 @@
 //! ```
 #![tactic(auto)]
 
+mod bands;
 mod geometry;
+mod numbering;
+mod parts;
+mod places;
 mod sides;
 
 pub use geometry::Geometry;
+pub use places::{BlockId, BlockRange, Rect};

@@ -24,3 +24,12 @@ pub(crate) fn precincts_along(samples: u32, res: u8) -> u32
         samples.div_ceil(256)
     }
 }
+
+// How many code blocks lie along so many samples of a band.
+pub(crate) fn blocks_along(samples: u32) -> u32
+    requires { samples ≤ 4096 }
+    ensures count { result ≡ div_up samples 32 }
+    ensures few { result ≤ 128 }
+{
+    samples.div_ceil(32)
+}

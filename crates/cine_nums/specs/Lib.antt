@@ -1,2 +1,4 @@
+pub mod Bits
 pub mod Division
+pub mod Fixed
 pub mod Profile

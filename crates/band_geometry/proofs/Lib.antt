@@ -1,0 +1,6 @@
+pub mod BandLemmas
+pub mod ListedLemmas
+pub mod NumberLemmas
+pub mod PrecinctLemmas
+pub mod SideLemmas
+pub mod TilingLemmas

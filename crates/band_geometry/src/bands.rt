@@ -1,0 +1,105 @@
+// The bands of a frame, their code blocks and the blocks of a precinct.
+ghost use Rattle.std.specs.Prelude.{◌*◌, ◌≡◌, ◌≤◌, ◌<◌, ◌/◌, ◌↔◌, ℕ};
+
+use crate::geometry::Geometry;
+use crate::places::{BlockId, BlockRange, Rect};
+use cine_nums::Orient;
+
+impl Geometry {
+    ghost use Rattle.band_geometry.specs.Bands.{HasBand, band_of, IsBlock, block_of, IsPlaceIn, HoldsPlace, precinct_blocks_of, IsInRange, block_columns, block_rows};
+    ghost use Rattle.band_geometry.specs.Sizes.{precinct_count};
+    ghost use Rattle.band_geometry.specs.declared.places.BlockId.{BlockId};
+
+    /// Where a band stands in the transformed plane (ISO/IEC 15444-1, B.5): the bands HL, LH and HH
+    /// of a resolution stand to the right of the resolution below, under it, and across from it.
+    pub fn band(&self, res: u8, orient: Orient) -> Rect
+        requires { HasBand self.now res orient }
+        ensures value { result ≡ band_of self.now res orient }
+        // Each place of the band lies in a block, and by `block` in one alone.
+        ensures covered { (c x y : ℕ) → c < 3 → IsPlaceIn result x y →
+            (id : BlockId) × HoldsPlace self.now c res orient x y id }
+    {
+        match orient {
+            Orient::LL => {
+                let (width, height) = self.res_size(0);
+                Rect {
+                    x: 0,
+                    y: 0,
+                    width,
+                    height,
+                }
+            }
+            _ => self.detail_band(res, orient),
+        }
+    }
+
+    // A band of high frequencies.
+    #[tactic(auto, using(crate::proofs::SideLemmas::res_side_below_le))]
+    fn detail_band(&self, res: u8, orient: Orient) -> Rect
+        requires band { HasBand self.now res orient }
+        requires detail { 1 ≤ res }
+        ensures { result ≡ band_of self.now res orient }
+    {
+        let (width, height) = self.res_size(res);
+        let (x, y) = self.res_size(res - 1);
+        match orient {
+            Orient::LL => unreachable!(),
+            Orient::HL => Rect {
+                x,
+                y: 0,
+                width: width - x,
+                height: y,
+            },
+            Orient::LH => Rect {
+                x: 0,
+                y,
+                width: x,
+                height: height - y,
+            },
+            Orient::HH => Rect {
+                x,
+                y,
+                width: width - x,
+                height: height - y,
+            },
+        }
+    }
+
+    /// The places of a code block in the transformed plane. Blocks are 32 by 32, counted from the
+    /// band's own corner; those at the right and the lower edge are cut (ISO/IEC 15444-1, B.7).
+    pub fn block(&self, id: BlockId) -> Rect
+        requires { IsBlock self.now id }
+        ensures value { result ≡ block_of self.now id }
+        ensures inside { (x y : ℕ) → IsPlaceIn result x y → IsPlaceIn (band_of self.now id.res id.orient) x y }
+        ensures apart { (x y : ℕ) → IsPlaceIn result x y → (other : BlockId) →
+            HoldsPlace self.now id.component id.res id.orient x y other → other ≡ id }
+    {
+        let band = self.band(id.res, id.orient);
+        Rect {
+            x: band.x + 32 * id.x,
+            y: band.y + 32 * id.y,
+            width: (band.width - 32 * id.x).min(32),
+            height: (band.height - 32 * id.y).min(32),
+        }
+    }
+
+    /// The code blocks of a band that precinct `(px, py)` of its resolution holds: at most 4 by 4,
+    /// maybe none (ISO/IEC 15444-1, B.7).
+    pub fn precinct_blocks(&self, res: u8, orient: Orient, px: u32, py: u32) -> BlockRange
+        requires band { HasBand self.now res orient }
+        requires column { px < precinct_count self.now.levels self.now.width res }
+        requires row { py < precinct_count self.now.levels self.now.height res }
+        ensures value { result ≡ precinct_blocks_of self.now res orient px py }
+        // They are those blocks of the band whose upper left place lies in the precinct's 128 by 128.
+        ensures members { (x y : ℕ) → x < block_columns self.now res orient → y < block_rows self.now res orient →
+            (IsInRange result x y ↔ (32 * x / 128 ≡ px) × (32 * y / 128 ≡ py)) }
+    {
+        let (columns, rows) = self.block_grid(res, orient);
+        BlockRange {
+            x0: columns.min(4 * px),
+            y0: rows.min(4 * py),
+            x1: columns.min(4 * px + 4),
+            y1: rows.min(4 * py + 4),
+        }
+    }
+}

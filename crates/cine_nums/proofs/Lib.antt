@@ -1,0 +1,2 @@
+pub mod BitLength
+mod Product

@@ -1,0 +1,3 @@
+mod Matrix
+pub mod Places
+pub mod Range

@@ -1,0 +1,2 @@
+pub mod Ict
+pub mod Pointwise

@@ -1,0 +1,2 @@
+mod BuiltIn
+mod Quotient

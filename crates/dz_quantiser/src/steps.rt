@@ -1,0 +1,118 @@
+// The steps of the bands.
+ghost use Rattle.std.specs.Prelude.{ℕ, ◌≡◌, ◌≢◌, ◌+◌, ◌*◌, ◌<◌, ◌≤◌};
+ghost use Rattle.arrayvec.specs.ArrayVec.{array_vec_len};
+ghost use Rattle.cine_nums.specs.Profile.{guard_of, levels_of};
+ghost use Rattle.cine_nums.specs.declared.orient.Orient.{Orient};
+ghost use Rattle.dz_quantiser.specs.Bands.{band_number, level_of, range_of, planes_of, built_in_step, built_in_bands, step_of, AreUsable};
+
+use arrayvec::ArrayVec;
+use cine_nums::{Orient, Profile};
+
+/// The step of a band, as the QCD segment spells it (ISO/IEC 15444-1, Table A.30):
+/// `2^(range - exponent) * (1 + mantissa / 2^11)`, with the band's [`range`].
+#[derive(Clone, Copy, Debug, Default, PartialEq, Eq)]
+pub struct BandStep {
+    /// 5 bits.
+    pub exponent: u8,
+    /// 11 bits.
+    pub mantissa: u16,
+}
+
+/// The steps of all bands of a component, the same for each of the three.
+#[derive(Drop)]
+pub struct Steps {
+    /// The guard bits.
+    pub guard: u8,
+    /// One step a band, in the order of the QCD segment, which [`band_number`] gives.
+    pub bands: ArrayVec<BandStep, 19>,
+}
+
+impl Steps {
+    /// The steps and guard bits that the encoder uses. A band of level n has the exponent `13 + n` and
+    /// the mantissa 0; resolution 0 has the level of the profile's lowest bands.
+    pub fn built_in(profile: Profile) -> Steps
+        ensures guard { result.guard ≡ guard_of profile }
+        ensures bands { result.bands.items ≡ built_in_bands (levels_of profile) }
+        // The band at each place has its level.
+        ensures levels { (r : ℕ) (o : Orient) → 1 ≤ r → r ≤ levels_of profile → o ≢ Orient.LL →
+            step_of result r o ≡ built_in_step (level_of (levels_of profile) r) }
+        ensures usable { AreUsable (levels_of profile) result }
+    {
+        let levels = profile.levels();
+        let mut bands = ArrayVec::new();
+        bands.push(built_in_step(levels));
+        for done in 0..levels {
+            let step = built_in_step(levels - done);
+            bands.push(step);
+            bands.push(step);
+            bands.push(step);
+        }
+        Steps {
+            guard: profile.guard(),
+            bands,
+        }
+    }
+
+    /// The step of a band of resolution `res`, of `levels` levels. Resolution 0 has LL alone, and no
+    /// other resolution has it.
+    pub fn step(&self, levels: u8, res: u8, orient: Orient) -> BandStep
+        requires levels { levels ≤ 6 }
+        requires count { array_vec_len self.now.bands ≡ 3 * levels + 1 }
+        requires res { res ≤ levels }
+        requires lowest { res ≡ 0 → orient ≡ Orient.LL }
+        requires above { orient ≡ Orient.LL → res ≡ 0 }
+        ensures { result ≡ step_of self.now res orient }
+    {
+        self.bands[usize::from(band_number(levels, res, orient))]
+    }
+}
+
+/// The built-in step of a band of a level.
+fn built_in_step(level: u8) -> BandStep
+    requires { level ≤ 6 }
+    ensures { result ≡ built_in_step level }
+{
+    BandStep {
+        exponent: 13 + level,
+        mantissa: 0,
+    }
+}
+
+/// The place of a band in the order of the QCD segment: LL, then HL, LH and HH of resolution 1, those of
+/// resolution 2, and so on. Resolution 0 has LL alone, and no other resolution has it.
+pub fn band_number(levels: u8, res: u8, orient: Orient) -> u8
+    requires levels { levels ≤ 6 }
+    requires res { res ≤ levels }
+    requires lowest { res ≡ 0 → orient ≡ Orient.LL }
+    requires above { orient ≡ Orient.LL → res ≡ 0 }
+    ensures value { result ≡ band_number res orient }
+    ensures within { result < 3 * levels + 1 }
+{
+    match orient {
+        Orient::LL => 0,
+        Orient::HL => 3 * (res - 1) + 1,
+        Orient::LH => 3 * (res - 1) + 2,
+        Orient::HH => 3 * (res - 1) + 3,
+    }
+}
+
+/// The dynamic range of a band in bits: the 12 of the samples, and 1 for each high-pass filter (E-4).
+pub fn range(orient: Orient) -> u8
+    ensures { result ≡ range_of orient }
+{
+    match orient {
+        Orient::LL => 12,
+        Orient::HL | Orient::LH => 13,
+        Orient::HH => 14,
+    }
+}
+
+/// The number of magnitude bit planes of a band: the guard bits and the exponent of its step, less 1
+/// (E-2), and 0 where both are 0.
+pub fn planes(guard: u8, step: BandStep) -> u8
+    requires guard { guard ≤ 7 }
+    requires exponent { step.exponent < 32 }
+    ensures { result ≡ planes_of guard step.exponent }
+{
+    (guard + step.exponent).saturating_sub(1)
+}

@@ -1,0 +1,5 @@
+mod BandLaw
+mod BandSteps
+mod Resolutions
+mod Rows
+mod Unknown

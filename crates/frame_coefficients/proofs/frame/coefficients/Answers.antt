@@ -1,0 +1,27 @@
+use Rattle.std.proofs.Common.{refl}
+use Rattle.frame_coefficients.specs.Frame.{coefficients_of, empty_of}
+use Rattle.frame_coefficients.proofs.frame.coefficients.Goals as goal
+
+pub returns-clause-c0 : goal.returns-clause-c0
+unfolding coefficients_of
+returns-clause-c0 c = rw c.mix.ensures.cells0 at c.in_ok-c0.ensures.value
+
+pub returns-clause-c1 : goal.returns-clause-c1
+unfolding coefficients_of
+returns-clause-c1 c = rw c.mix.ensures.cells1 at c.in_ok-c1.ensures.value
+
+pub returns-clause-c2 : goal.returns-clause-c2
+unfolding coefficients_of
+returns-clause-c2 c = rw c.mix.ensures.cells2 at c.in_ok-c2.ensures.value
+
+pub returns-clause-empty : goal.returns-clause-empty
+unfolding empty_of
+returns-clause-empty c =
+    rw (
+      c.energy.ensures.value,
+      c.energy-2.ensures.value,
+      c.energy-3.ensures.value,
+      returns-clause-c0 c,
+      returns-clause-c1 c,
+      returns-clause-c2 c,
+    ) refl

@@ -1,0 +1,28 @@
+-- The coefficients of a frame, from its samples on: the component transform (ISO/IEC 15444-1, Annex G.3), the
+-- wavelet transform of each component (Annex F) and the quantiser (Annex E).
+use Rattle.std.specs.Prelude.{ℕ, zero, suc, ◌+◌, ℤ, List}
+use Rattle.band_geometry.specs.declared.geometry.Geometry.{Geometry}
+use Rattle.colour_ict.specs.Ict.{component0, component1, component2}
+use Rattle.colour_ict.specs.Pointwise.{pointwise}
+use Rattle.dz_quantiser.specs.declared.coef.Coef.{Coef}
+use Rattle.dz_quantiser.specs.declared.steps.Steps.{Steps}
+use Rattle.lift97_fixed.specs.Plane.{plane_transform}
+use Rattle.frame_coefficients.specs.Energy.{energy}
+use Rattle.frame_coefficients.specs.Places.{quantised}
+
+-- component 0, 1 or 2 of pixels with the samples xs, ys, zs, in raster order
+abbrev pub component : ℕ → List ℕ → List ℕ → List ℕ → List ℤ
+component zero xs ys zs = pointwise component0 xs ys zs
+component (suc zero) xs ys zs = pointwise component1 xs ys zs
+component (suc (suc _)) xs ys zs = pointwise component2 xs ys zs
+
+-- the coefficients of component 0, 1 or 2 of a frame, in raster order of the transformed plane
+unfoldable pub coefficients_of : Geometry → Steps → ℕ → List ℕ → List ℕ → List ℕ → List Coef
+coefficients_of g steps c xs ys zs =
+    quantised g steps (plane_transform g.levels g.width g.height (component c xs ys zs))
+
+-- the distortion of a frame of which nothing is known: the sum over the coefficients of all components
+unfoldable pub empty_of : Geometry → Steps → List ℕ → List ℕ → List ℕ → ℕ
+empty_of g steps xs ys zs =
+    energy (coefficients_of g steps 0 xs ys zs) + energy (coefficients_of g steps 1 xs ys zs)
+    + energy (coefficients_of g steps 2 xs ys zs)

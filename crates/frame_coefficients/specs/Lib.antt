@@ -1,0 +1,4 @@
+pub mod Energy
+pub mod Frame
+pub mod Places
+pub mod Planes

@@ -1,0 +1,160 @@
+// The coefficients of a frame.
+ghost use Rattle.std.specs.Prelude.{◌≡◌, ◌*◌, ◌+◌, ◌<◌, ◌≤◌, ◌^◌, length, max, IfOk};
+ghost use Rattle.std.specs.List.{All};
+ghost use Rattle.cine_nums.specs.Fixed.{Within30};
+ghost use Rattle.dz_quantiser.specs.Bands.{AreUsable};
+ghost use Rattle.lift97_fixed.specs.Plane.{plane_transform};
+ghost use Rattle.frame_coefficients.specs.Frame.{component, coefficients_of, empty_of};
+ghost use Rattle.frame_coefficients.specs.Places.{quantised};
+ghost use Rattle.frame_coefficients.specs.Planes.{HasSize, IsSmall};
+
+use crate::plane::CoefPlane;
+use crate::quantise::quantise_plane;
+use band_geometry::Geometry;
+use colour_ict::row;
+use dz_quantiser::Steps;
+use lift97_fixed::{Plane, forward};
+use std::alloc::{AllocError, Global};
+
+/// The coefficients of the three components of a frame.
+#[derive(Debug, Drop)]
+pub struct FrameCoefs {
+    pub c0: CoefPlane,
+    pub c1: CoefPlane,
+    pub c2: CoefPlane,
+    /// The distortion of the frame while no bit plane of any coefficient is known, in units of half a
+    /// step squared.
+    pub empty: u128,
+}
+
+/// The component transform of all pixels, each component into a plane of its own.
+fn mix(x: &[u16], y: &[u16], z: &[u16], plane0: &mut Plane, plane1: &mut Plane, plane2: &mut Plane)
+    requires y_len { length y.now ≡ length x.now }
+    requires z_len { length z.now ≡ length x.now }
+    requires len0 { length plane0.old.cells.items ≡ length x.now }
+    requires len1 { length plane1.old.cells.items ≡ length x.now }
+    requires len2 { length plane2.old.cells.items ≡ length x.now }
+    requires x_in_range { All (λ s. s ≤ 4095) x.now }
+    requires y_in_range { All (λ s. s ≤ 4095) y.now }
+    requires z_in_range { All (λ s. s ≤ 4095) z.now }
+    ensures cells0 { plane0.new.cells.items ≡ component 0 x.now y.now z.now }
+    ensures cells1 { plane1.new.cells.items ≡ component 1 x.now y.now z.now }
+    ensures cells2 { plane2.new.cells.items ≡ component 2 x.now y.now z.now }
+    ensures size0 { (plane0.new.width ≡ plane0.old.width) × (plane0.new.height ≡ plane0.old.height) }
+    ensures size1 { (plane1.new.width ≡ plane1.old.width) × (plane1.new.height ≡ plane1.old.height) }
+    ensures size2 { (plane2.new.width ≡ plane2.old.width) × (plane2.new.height ≡ plane2.old.height) }
+    ensures within0 { All Within30 plane0.new.cells.items }
+    ensures within1 { All Within30 plane1.new.cells.items }
+    ensures within2 { All Within30 plane2.new.cells.items }
+{
+    row(
+        x,
+        y,
+        z,
+        plane0.cells.as_mut_slice(),
+        plane1.cells.as_mut_slice(),
+        plane2.cells.as_mut_slice(),
+    );
+}
+
+/// The coefficients of a component, from its plane before the wavelet transform.
+fn coefs_of(
+    alloc: Global,
+    geometry: &Geometry,
+    steps: &Steps,
+    mut plane: Plane,
+    scratch: &mut [i32],
+) -> Result<CoefPlane, AllocError>
+    requires guard { steps.now.guard ≤ 7 }
+    requires usable { AreUsable geometry.now.levels steps.now }
+    requires width { plane.width ≡ geometry.now.width }
+    requires height { plane.height ≡ geometry.now.height }
+    requires cells { All Within30 plane.cells.items }
+    requires scratch { 2 * max geometry.now.width geometry.now.height ≤ length scratch.old }
+    ensures size { IfOk result (λ q. HasSize geometry.now q) }
+    ensures value { IfOk result (λ q. q.cells.items ≡ quantised geometry.now steps.now
+        (plane_transform geometry.now.levels geometry.now.width geometry.now.height plane.cells.items)) }
+    ensures magnitudes { IfOk result (λ q. IsSmall q) }
+{
+    forward(&mut plane, geometry.levels, scratch);
+    let mut coefs = CoefPlane::new(alloc, geometry.width, geometry.height)?;
+    quantise_plane(
+        geometry,
+        steps,
+        plane.cells.as_slice(),
+        coefs.cells.as_mut_slice(),
+    );
+    Ok(coefs)
+}
+
+/// The coefficients of a frame, whose samples X, Y and Z stand in raster order and are at most 4095: the
+/// component transform (ISO/IEC 15444-1, Annex G.3), the wavelet transform of the geometry's levels
+/// (Annex F), and the index of each place by the step of its band (Annex E).
+///
+/// Every magnitude is below `2^20`. The only refusal is want of memory.
+pub fn coefficients(
+    alloc: Global,
+    geometry: &Geometry,
+    steps: &Steps,
+    x: &[u16],
+    y: &[u16],
+    z: &[u16],
+) -> Result<FrameCoefs, AllocError>
+    requires guard { steps.now.guard ≤ 7 }
+    requires usable { AreUsable geometry.now.levels steps.now }
+    requires x_len { length x.now ≡ geometry.now.height * geometry.now.width }
+    requires y_len { length y.now ≡ geometry.now.height * geometry.now.width }
+    requires z_len { length z.now ≡ geometry.now.height * geometry.now.width }
+    requires x_in_range { All (λ s. s ≤ 4095) x.now }
+    requires y_in_range { All (λ s. s ≤ 4095) y.now }
+    requires z_in_range { All (λ s. s ≤ 4095) z.now }
+    ensures c0 { IfOk result (λ q. q.c0.cells.items ≡ coefficients_of geometry.now steps.now 0 x.now y.now z.now) }
+    ensures c1 { IfOk result (λ q. q.c1.cells.items ≡ coefficients_of geometry.now steps.now 1 x.now y.now z.now) }
+    ensures c2 { IfOk result (λ q. q.c2.cells.items ≡ coefficients_of geometry.now steps.now 2 x.now y.now z.now) }
+    ensures empty { IfOk result (λ q. q.empty ≡ empty_of geometry.now steps.now x.now y.now z.now) }
+    ensures size { IfOk result (λ q. HasSize geometry.now q.c0 × HasSize geometry.now q.c1 × HasSize geometry.now q.c2) }
+    ensures magnitudes { IfOk result (λ q. IsSmall q.c0 × IsSmall q.c1 × IsSmall q.c2) }
+{
+    let (width, height) = (geometry.width, geometry.height);
+    let mut plane0 = Plane::new(alloc, width, height)?;
+    let mut plane1 = Plane::new(alloc, width, height)?;
+    let mut plane2 = Plane::new(alloc, width, height)?;
+    mix(x, y, z, &mut plane0, &mut plane1, &mut plane2);
+    let mut scratch = vec![in alloc; 0; 2 * width.max(height) as usize]?;
+    let c0 = coefs_of(alloc, geometry, steps, plane0, scratch.as_mut_slice())?;
+    let c1 = coefs_of(alloc, geometry, steps, plane1, scratch.as_mut_slice())?;
+    let c2 = coefs_of(alloc, geometry, steps, plane2, scratch.as_mut_slice())?;
+    let empty = c0.energy() + c1.energy() + c2.energy();
+    Ok(FrameCoefs { c0, c1, c2, empty })
+}
+
+#[cfg(test)]
+mod tests {
+    use super::*;
+    use cine_nums::Profile;
+    use dz_quantiser::Coef;
+    use std::test::Fail;
+
+    #[test]
+    fn frames_of_one_pixel(rt: HostRuntime) -> Result<(), Fail> {
+        let geometry = Geometry::new(Profile::TwoK, 5, 1, 1);
+        let steps = Steps::built_in(Profile::TwoK);
+        let grey = coefficients(rt.alloc(), &geometry, &steps, &[2049], &[2049], &[2049])?;
+        let first = Coef {
+            magnitude: 64,
+            negative: false,
+        };
+        assert_eq!(rt; grey.c0.cells.as_slice(), [first].as_slice());
+        assert_eq!(rt; grey.empty, 16641);
+        let black = coefficients(rt.alloc(), &geometry, &steps, &[0], &[0], &[0])?;
+        let first = Coef {
+            magnitude: 131072,
+            negative: true,
+        };
+        assert_eq!(rt; black.c0.cells.as_slice(), [first].as_slice());
+        assert_eq!(rt; black.empty, 68720001025);
+        let white = coefficients(rt.alloc(), &geometry, &steps, &[4095], &[4095], &[4095])?;
+        assert_eq!(rt; white.empty, 68652908289);
+        Ok(())
+    }
+}

@@ -1,0 +1,52 @@
+// A plane of coefficients.
+ghost use Rattle.std.specs.Prelude.{◌≡◌, ◌*◌, ◌<◌, ◌≤◌, ◌^◌, false, length, replicate, IfOk};
+ghost use Rattle.std.specs.List.{All};
+ghost use Rattle.frame_coefficients.specs.Energy.{energy};
+
+use crate::energy::energy;
+use dz_quantiser::Coef;
+use std::alloc::{AllocError, Global};
+
+/// The coefficients of one component in raster order: `height` rows of `width` cells, each side from 1
+/// to 4,096. The bands stand where the wavelet transform leaves them (ISO/IEC 15444-1, Annex B.5).
+#[derive(Debug, Drop)]
+pub struct CoefPlane {
+    pub width: u32,
+    pub height: u32,
+    pub cells: Vec<Coef>,
+    pub ghost wide: { 1 ≤ width × width ≤ 4096 },
+    pub ghost high: { 1 ≤ height × height ≤ 4096 },
+    pub ghost whole: { length cells.items ≡ height * width },
+}
+
+impl CoefPlane {
+    /// A plane whose coefficients are all 0. The only refusal is want of memory.
+    pub fn new(alloc: Global, width: u32, height: u32) -> Result<CoefPlane, AllocError>
+        requires wide { 1 ≤ width × width ≤ 4096 }
+        requires high { 1 ≤ height × height ≤ 4096 }
+        ensures width { IfOk result (λ plane. plane.width ≡ width) }
+        ensures height { IfOk result (λ plane. plane.height ≡ height) }
+        ensures cells { IfOk result (λ plane. plane.cells.items ≡ replicate (height * width) (record { magnitude = 0; negative = false })) }
+    {
+        let cells = vec![in alloc; Coef::default(); height as usize * width as usize]?;
+        Ok(CoefPlane {
+            width,
+            height,
+            cells,
+        })
+    }
+
+    /// The distortion of the plane while no bit plane of any coefficient is known, in units of half a
+    /// step squared.
+    pub fn energy(&self) -> u128
+        requires { All (λ c. c.magnitude < 2 ^ 20) self.now.cells.items }
+        ensures value { result ≡ energy self.now.cells.items }
+        ensures small { result ≤ 2 ^ 66 }
+    {
+        energy(
+            self.cells.as_slice(),
+            self.width as usize,
+            self.height as usize,
+        )
+    }
+}

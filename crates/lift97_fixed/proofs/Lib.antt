@@ -1,0 +1,6 @@
+pub mod Casts
+pub mod Lines
+pub mod Planes
+pub mod Written
+pub mod Moves
+pub mod Levels
