@@ -7,7 +7,7 @@ use Rattle.std.proofs.lemmas.Bool.{cases_lt, cases_eq, lt-ltb, le-ltb}
 use Rattle.std.proofs.lemmas.Bool.Decides.{nat_tests}
 use Rattle.std.proofs.Math.ListN.{set}
 use Rattle.cine_nums.specs.Fixed.{Within30}
-use Rattle.lift97_fixed.proofs.Casts.{passed, passed_within, within_passed}
+use Rattle.lift97_fixed.proofs.Casts.{passed, passed_within}
 use Rattle.lift97_fixed.specs.Line.{at, left_of, right_of, lifted, scaled, lifted_at, lift, scaled_at, scale, evens, odds, split, source_of, filtered, line_transform}
 
 pub on_parity : (c : ℤ) (p : ℕ) (xs : List ℤ) (i : ℕ) → i % 2 ≡ p → lifted_at c p xs i ≡ lifted c (at xs i) (at xs (left_of i)) (at xs (right_of (length xs) i))
@@ -100,17 +100,38 @@ lift_step c p k old x r left right h two inside l el er e w =
     let value : r ≡ lifted c (at x (2 * k + p)) (at x (left_of (2 * k + p))) (at x (right_of (length x) (2 * k + p))) = cc in
     rw (passed_within r w) (lift_more c p k old x r h two inside l value w)
 
--- the neighbours are samples in the range
-pub left_within : (c : ℤ) (p k : ℕ) (old x : List ℤ) (left : ℕ) → 2 ≤ length x → 2 * k + p < length x →
-    Lifted c p (2 * k + p) old x → left ≡ left_of (2 * k + p) → Within30 (passed (at x left))
-left_within c p k old x left two inside l e =
-    within_passed _ (l.within left (pos 0) (rw e (left_inside (length x) (2 * k + p) two inside)))
+-- the neighbours of an inner place
+pub inner_left : (i : ℕ) → 1 ≤ i → i - 1 ≡ left_of i
+inner_left zero h = absurd (omega arith)
+inner_left (suc i) h = omega arith
 
-pub right_within : (c : ℤ) (p k : ℕ) (old x : List ℤ) (right : ℕ) → 2 ≤ length x → 2 * k + p < length x →
-    Lifted c p (2 * k + p) old x → right ≡ right_of (length old) (2 * k + p) → Within30 (passed (at x right))
-right_within c p k old x right two inside l e =
-    let n : right ≡ right_of (length x) (2 * k + p) = rw l.size e in
-    within_passed _ (l.within right (pos 0) (rw n (right_inside (length x) (2 * k + p) two inside)))
+pub inner_right : (n i : ℕ) → i + 1 < n → i + 1 ≡ right_of n i
+inner_right n i h = rw (lt-ltb (i + 1) n h) refl
+
+-- and of the last one
+pub last_right : (n i : ℕ) → n ≤ i + 1 → n - 2 ≡ right_of n i
+last_right n i h = rw (le-ltb (i + 1) n h) refl
+
+-- place 0, whose two neighbours are place 1
+pub lift_first : (c : ℤ) (p : ℕ) (xs : List ℤ) (r : ℤ) → 2 ≤ length xs → All Within30 xs → p ≡ 0 →
+    r ≡ lifted c (passed (at xs 0)) (passed (at xs 1)) (passed (at xs 1)) → Within30 r → Lifted c p (2 * (1 - p) + p) xs (set xs 0 (passed r))
+lift_first c zero xs r two w e value in30 =
+    lift_step c 0 0 xs xs r 1 1 (omega arith) two (omega arith) (lift_none c 0 xs (omega arith) w) refl (inner_right (length xs) 0 (omega arith)) value in30
+lift_first c (suc p) xs r two w e value in30 = absurd (omega arith)
+
+pub lift_other : (c : ℤ) (p : ℕ) (xs : List ℤ) → p < 2 → All Within30 xs → (p ≡ 0 → ⊥) → Lifted c p (2 * (1 - p) + p) xs xs
+lift_other c p xs h w ne = let e : 2 * (1 - p) + p ≡ p = omega arith in rw e (lift_none c p xs h w)
+
+-- the last place of n, whose two neighbours are place n - 2
+pub lift_last : (c : ℤ) (p k n : ℕ) (old x : List ℤ) (r : ℤ) → n ≡ length x → p < 2 → 2 ≤ n → k ≡ (n - p) / 2 → (n - 1) % 2 ≡ p →
+    Lifted c p (2 * k + p) old x → r ≡ lifted c (passed (at x (n - 1))) (passed (at x (n - 2))) (passed (at x (n - 2))) → Within30 r →
+    Lifted c p (2 * (k + 1) + p) old (set x (n - 1) (passed r))
+lift_last c p k n old x r en h two ek parity l value in30 =
+    let place : n - 1 ≡ 2 * k + p = omega arith in
+    let before : n - 2 ≡ left_of (2 * k + p) = (let q : n - 2 ≡ 2 * k + p - 1 = omega arith in q ∙ inner_left (2 * k + p) (omega arith)) in
+    let behind : n - 2 ≡ right_of (length old) (2 * k + p) =
+    (let q : n - 2 ≡ length old - 2 = omega (arith, l.size) in q ∙ last_right (length old) (2 * k + p) (omega (arith, l.size))) in
+    rw place (lift_step c p k old x r (n - 2) (n - 2) h (omega arith) (omega arith) l before behind (rw place at value) in30)
 
 pub lift_all : (c : ℤ) (p n : ℕ) (old x : List ℤ) → length x ≤ n → Lifted c p n old x → x ≡ lift c p old
 unfolding lift

@@ -68,9 +68,15 @@ fn lift(line: &mut [i32], first: usize, c: i32)
     ensures within { All Within30 line.new }
 {
     let n = line.len();
-    for k in 0..(n + 1 - first) / 2 {
+    if first == 0 {
+        line[0] = lifted(c, line[0], line[1], line[1]);
+    }
+    for k in 1 - first..(n - first) / 2 {
         let i = 2 * k + first;
-        line[i] = lifted(c, line[i], line[left_of(i)], line[right_of(n, i)]);
+        line[i] = lifted(c, line[i], line[i - 1], line[i + 1]);
+    }
+    if (n - 1) % 2 == first {
+        line[n - 1] = lifted(c, line[n - 1], line[n - 2], line[n - 2]);
     }
 }
 
