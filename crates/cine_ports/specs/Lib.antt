@@ -1,0 +1,7 @@
+pub mod Cause
+pub mod Folder
+pub mod Memory
+pub mod Moves
+pub mod Names
+pub mod Outputs
+pub mod Source

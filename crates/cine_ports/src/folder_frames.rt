@@ -1,0 +1,159 @@
+// Frames that lie in a folder.
+ghost use Rattle.std.specs.Prelude.{map};
+ghost use Rattle.std.specs.String.{string_bytes};
+ghost use Rattle.cine_ports.specs.Names.{IsNameList};
+
+use crate::fault_count::FaultCount;
+use crate::names::is_name_list;
+use crate::{Failed, Frames, PortFault};
+use std::fs::DirEntry;
+use std::io::Read;
+use std::path::Path;
+use std::rt::Files;
+use std::{fs, io};
+
+/// The files of a folder whose names end in a suffix and are longer than it. Their bytes aren't
+/// told, and their names without the suffix.
+///
+/// A link counts as what it points to. A file name that isn't UTF-8 is a fault of `list`, and so
+/// is a link with the suffix that points to nothing.
+#[derive(Drop)]
+pub struct FolderFrames<R: Files + AllocGlobal + Clone + Drop> {
+    rt: R,
+    folder: String,
+    suffix: String,
+    names: Vec<String>,
+    is_listed: bool,
+    asked: u32,
+    file: Option<R::File>,
+    faults: FaultCount,
+    ghost in_order: { IsNameList (map string_bytes names.items) },
+}
+
+impl<R: Files + AllocGlobal + Clone + Drop> FolderFrames<R> {
+    ghost use Rattle.std.specs.Prelude.{◌≡◌, [], false, is_some};
+
+    /// The frames of this folder, of which none is listed or begun. Nothing is read yet.
+    pub fn new(rt: R, folder: String, suffix: String) -> FolderFrames<R>
+        ensures names { result.names.items ≡ [] }
+        ensures listed { result.is_listed ≡ false }
+        ensures asked { result.asked ≡ 0 }
+        ensures closed { is_some result.file ≡ false }
+        ensures faults { result.faults.count ≡ 0 }
+    {
+        let names = Vec::new(rt.alloc());
+        FolderFrames {
+            rt,
+            folder,
+            suffix,
+            names,
+            is_listed: false,
+            asked: 0,
+            file: None,
+            faults: FaultCount::new(),
+        }
+    }
+}
+
+/// The name of an entry without the suffix, where it is a file with that suffix and a longer name.
+fn frame_name<'a, R: Files + AllocGlobal>(
+    rt: &R,
+    entry: &'a DirEntry<R>,
+    suffix: &str,
+) -> io::Result<Option<&'a str>> {
+    match entry.file_name().strip_suffix(suffix) {
+        Some(name) if !name.is_empty() => {
+            let is_file = fs::metadata(rt, entry.path())?.is_file();
+            Ok(if is_file { Some(name) } else { None })
+        }
+        _ => Ok(None),
+    }
+}
+
+/// The names of the frames of a folder, sorted by their bytes.
+fn frame_names<R: Files + AllocGlobal + Clone + Drop>(
+    rt: &R,
+    folder: &str,
+    suffix: &str,
+) -> io::Result<Vec<String>> {
+    let alloc = rt.alloc();
+    let mut names = Vec::new(alloc);
+    for entry in fs::read_dir(rt, folder)? {
+        let entry = entry?;
+        if let Some(name) = frame_name(rt, &entry, suffix)? {
+            names.push(String::from_str(alloc, name)?)?;
+        }
+    }
+    names.sort()?;
+    Ok(names)
+}
+
+fn open_frame<R: Files + AllocGlobal>(
+    rt: &R,
+    folder: &str,
+    name: &str,
+    suffix: &str,
+) -> io::Result<R::File> {
+    let alloc = rt.alloc();
+    let file_name = format!(in alloc; "{name}{suffix}")?;
+    fs::open(rt, Path::new(folder).join(alloc, file_name.as_str())?)
+}
+
+impl<R: Files + AllocGlobal + Clone + Drop> Frames for FolderFrames<R> {
+    ghost use Rattle.std.specs.Prelude.{is_some};
+    ghost use Rattle.cine_ports.specs.Folder.{untold_source, untold_reading};
+
+    ghost source = { λ f. untold_source f.is_listed (map string_bytes f.names.items) };
+
+    ghost reading = { λ f. untold_reading f.asked (is_some f.file) };
+
+    ghost faults = { λ f. f.faults.count };
+
+    fn list(&mut self) -> Result<(), PortFault> {
+        if self.is_listed {
+            return Ok(());
+        }
+        match frame_names(&self.rt, self.folder.as_str(), self.suffix.as_str()) {
+            Ok(names) => {
+                if !is_name_list(names.as_slice()) {
+                    return Err(PortFault::from(self.faults.fail()));
+                }
+                self.names = names;
+                self.is_listed = true;
+                Ok(())
+            }
+            Err(error) => Err(self.faults.refuse(error)),
+        }
+    }
+
+    fn count(&self) -> u32 {
+        self.names.len() as u32
+    }
+
+    fn name(&self, i: u32) -> &str {
+        self.names[i as usize].as_str()
+    }
+
+    fn begin(&mut self, i: u32) -> Result<(), PortFault> {
+        self.asked = i;
+        self.file = None;
+        let name = self.names[i as usize].as_str();
+        match open_frame(&self.rt, self.folder.as_str(), name, self.suffix.as_str()) {
+            Ok(file) => {
+                self.file = Some(file);
+                Ok(())
+            }
+            Err(error) => Err(self.faults.refuse(error)),
+        }
+    }
+
+    fn read(&mut self, buf: &mut [u8]) -> Result<usize, Failed> {
+        match &mut self.file {
+            Some(file) => match file.read(buf) {
+                Ok(n) => Ok(n),
+                Err(_) => Err(self.faults.fail()),
+            },
+            None => unreachable!(),
+        }
+    }
+}

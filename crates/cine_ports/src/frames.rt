@@ -1,0 +1,77 @@
+// Where frames come from.
+ghost use Rattle.std.specs.Prelude.{[], false, ◌≡◌, ◌<◌, ◌≤◌, ◌++◌, ℕ, length, take, map, slice_get, IsTrue, IsSome, IfOk, IfSome, OnOk, OnErr};
+ghost use Rattle.cine_ports.specs.Cause.{HasCause, HasFaultCause};
+ghost use Rattle.cine_ports.specs.Source.{Source, Reading};
+ghost use Rattle.cine_ports.specs.Names.{IsNameList};
+
+use crate::fault::{Failed, PortFault};
+
+/// A source of frames: a list of files, of which one at a time is begun and read from its front.
+///
+/// A source may tell its files or not; one that does never changes them. Names are distinct and
+/// sorted by their bytes. The count of faults never falls.
+pub trait Frames {
+    /// The files, where they are told, and the names that were listed.
+    ghost source: { Self → Source };
+
+    /// Which frame was asked for, and what is left of it.
+    ghost reading: { Self → Reading };
+
+    /// How often a call failed.
+    ghost faults: { Self → ℕ };
+
+    /// Lists the names, which stay from then on.
+    ///
+    /// A source of 2^32 names or more is a fault.
+    fn list(&mut self) -> Result<(), PortFault>
+        ensures listed { OnOk result (IsTrue (source self.new).is_listed) }
+        ensures lawful { OnOk result (IsNameList (source self.new).names) }
+        // Where the files are told, these are their names in order.
+        ensures told { OnOk result (IfSome (source self.new).files
+            (λ files. (source self.new).names ≡ map (λ file. file.name) files)) }
+        ensures stays { IsTrue (source self.old).is_listed → source self.new ≡ source self.old }
+        ensures err { OnErr result (source self.new ≡ source self.old) }
+        ensures files { (source self.new).files ≡ (source self.old).files }
+        ensures reading { reading self.new ≡ reading self.old }
+        ensures cause { HasCause (faults self.old) (faults self.new) result };
+
+    /// How many names were listed.
+    fn count(&self) -> u32
+        ensures { result ≡ length (source self.now).names };
+
+    /// The name of a frame, by its place in the list.
+    fn name(&self, i: u32) -> &str
+        requires { i < length (source self.now).names }
+        ensures { slice_get (source self.now).names i ≡ Some result.now };
+
+    /// Begins a frame, by its place in the list: all its bytes are left to be read.
+    ///
+    /// After a refusal no frame is begun.
+    fn begin(&mut self, i: u32) -> Result<(), PortFault>
+        requires { i < length (source self.old).names }
+        ensures ok { OnOk result (IsTrue (reading self.new).is_begun) }
+        // Where the files are told, all the bytes of this one are left.
+        ensures left { OnOk result (IfSome (source self.new).files
+            (λ files. slice_get (map (λ file. file.bytes) files) i ≡ Some (reading self.new).left)) }
+        ensures err { OnErr result ((reading self.new).is_begun ≡ false) }
+        ensures asked { (reading self.new).asked ≡ i }
+        ensures source { source self.new ≡ source self.old }
+        ensures cause { HasCause (faults self.old) (faults self.new) result };
+
+    /// Moves bytes from the front of what is left into the buffer, and answers how many.
+    ///
+    /// For a buffer that isn't empty, 0 means that nothing is left. A refused read moves nothing.
+    fn read(&mut self, buf: &mut [u8]) -> Result<usize, Failed>
+        requires { IsTrue (reading self.old).is_begun }
+        ensures count { IfOk result (λ n. n ≤ length buf.new) }
+        ensures moved { IfOk result (λ n. IsSome (source self.old).files →
+            (reading self.old).left ≡ take n buf.new ++ (reading self.new).left) }
+        ensures end { IfOk result (λ n. IsSome (source self.old).files →
+            0 < length buf.new → n ≡ 0 → (reading self.old).left ≡ []) }
+        ensures err { OnErr result (IsSome (source self.old).files →
+            (reading self.new).left ≡ (reading self.old).left) }
+        ensures begun { IsTrue (reading self.new).is_begun }
+        ensures asked { (reading self.new).asked ≡ (reading self.old).asked }
+        ensures source { source self.new ≡ source self.old }
+        ensures cause { HasFaultCause (faults self.old) (faults self.new) result };
+}

@@ -1,0 +1,75 @@
+// A report in memory of which some calls fail.
+use crate::fault_plan::FaultPlan;
+use crate::{PortFault, Report};
+use std::alloc::Global;
+use std::marker::Model;
+
+/// A report in memory that is told, of which some calls fail, and which takes pieces.
+///
+/// The calls of `write` are numbered from 0. Exactly those whose number is among the failing ones
+/// answer Failed.
+#[derive(Debug, Drop)]
+pub struct MemoryReport {
+    bytes: Vec<u8>,
+    plan: FaultPlan,
+    piece: u32,
+}
+
+impl Model for MemoryReport {
+    ghost use Rattle.std.specs.Prelude.{◌≤◌};
+    ghost use Rattle.cine_ports.specs.Memory.{FailingReport};
+
+    ghost Value = { FailingReport };
+
+    ghost view = { λ r. record {
+      said = r.bytes.items;
+      faults = r.plan.faults.count;
+      calls = r.plan.calls;
+      failing = r.plan.failing.items;
+    } };
+
+    ghost invariant = { λ r. 1 ≤ r.piece };
+}
+
+impl MemoryReport {
+    ghost use Rattle.std.specs.Prelude.{[], ◌≡◌, ◌≤◌};
+
+    /// A report to which nothing was written. This takes no memory.
+    ///
+    /// A write takes at most `piece` bytes.
+    pub fn new(alloc: Global, failing: Vec<u32>, piece: u32) -> MemoryReport
+        requires { 1 ≤ piece }
+        ensures said { result.said ≡ [] }
+        ensures faults { result.faults ≡ 0 }
+        ensures calls { result.calls ≡ 0 }
+        ensures failing { result.failing ≡ failing.items }
+    {
+        MemoryReport {
+            bytes: Vec::new(alloc),
+            plan: FaultPlan::new(failing),
+            piece,
+        }
+    }
+
+    /// The bytes that were written.
+    pub fn bytes(&self) -> &[u8]
+        ensures { result.now ≡ self.now.said }
+    {
+        self.bytes.as_slice()
+    }
+}
+
+impl Report for MemoryReport {
+    ghost use Rattle.std.specs.Prelude.{Some};
+
+    ghost said = { λ r. Some r.said };
+
+    ghost faults = { λ r. r.faults };
+
+    fn write(&mut self, piece: &[u8]) -> Result<usize, PortFault> {
+        self.plan.next_call()?;
+        let n = piece.len().min(self.piece as usize);
+        self.bytes.extend_from_slice(&piece[..n])?;
+        Ok(n)
+    }
+}

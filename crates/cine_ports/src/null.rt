@@ -1,0 +1,61 @@
+// Outputs and a report that keep nothing.
+use crate::{Outputs, PortFault, Report};
+
+/// Outputs that keep nothing, tell nothing, take every piece whole and never refuse.
+#[derive(Debug, Drop)]
+pub struct NullOutputs {
+    is_open: bool,
+}
+
+impl NullOutputs {
+    ghost use Rattle.std.specs.Prelude.{◌≡◌, false};
+
+    /// Outputs of which nothing is begun.
+    pub fn new() -> NullOutputs
+        ensures { result.is_open ≡ false }
+    {
+        NullOutputs { is_open: false }
+    }
+}
+
+impl Outputs for NullOutputs {
+    ghost use Rattle.std.specs.Prelude.{None};
+
+    ghost kept = { λ o. None };
+
+    ghost is_open = { λ o. o.is_open };
+
+    ghost faults = { λ o. 0 };
+
+    ghost open_told = { λ o. tt };
+
+    fn begin(&mut self, _name: &str) -> Result<(), PortFault> {
+        self.is_open = true;
+        Ok(())
+    }
+
+    fn write(&mut self, piece: &[u8]) -> Result<usize, PortFault> {
+        Ok(piece.len())
+    }
+
+    fn finish(&mut self) -> Result<(), PortFault> {
+        self.is_open = false;
+        Ok(())
+    }
+}
+
+/// A report that keeps nothing, tells nothing, takes every piece whole and never refuses.
+#[derive(Debug, Drop)]
+pub struct NullReport;
+
+impl Report for NullReport {
+    ghost use Rattle.std.specs.Prelude.{None};
+
+    ghost said = { λ r. None };
+
+    ghost faults = { λ r. 0 };
+
+    fn write(&mut self, piece: &[u8]) -> Result<usize, PortFault> {
+        Ok(piece.len())
+    }
+}

@@ -1,0 +1,56 @@
+// Where codestreams go.
+ghost use Rattle.std.specs.Prelude.{Bool, false, is_some, ◌≡◌, ◌<◌, ◌≤◌, ℕ, length, take, map, option_map, Contains, Option, IsTrue, IfOk, IfSome, OnOk, OnErr};
+ghost use Rattle.std.specs.Option.{ForSome};
+ghost use Rattle.cine_ports.specs.Cause.{HasCause};
+ghost use Rattle.cine_ports.specs.Outputs.{Kept, with_begun, with_more, with_finished};
+
+use crate::fault::PortFault;
+
+/// Files that are written one after the other: one is begun, written piece by piece, and finished.
+///
+/// The object may tell what it keeps or not. No call changes a finished file, its place, or whether
+/// the files are told. A refused call leaves the files as they were. The count of faults never falls.
+pub trait Outputs {
+    /// The files, where they are told.
+    ghost kept: { Self → Option Kept };
+
+    /// Whether a file is begun and not yet finished.
+    ghost is_open: { Self → Bool };
+
+    /// How often a call failed.
+    ghost faults: { Self → ℕ };
+
+    /// Begins a file of this name, which has no bytes yet.
+    fn begin(&mut self, name: &str) -> Result<(), PortFault>
+        requires closed { is_open self.old ≡ false }
+        requires other_name { ForSome (kept self.old)
+            (λ files. ¬ Contains (map (λ file. file.name) files.finished) name.now) }
+        ensures ok { OnOk result (kept self.new ≡ option_map (with_begun name.now) (kept self.old)) }
+        ensures opened { OnOk result (IsTrue (is_open self.new)) }
+        ensures err { OnErr result ((kept self.new ≡ kept self.old) × (is_open self.new ≡ false)) }
+        ensures cause { HasCause (faults self.old) (faults self.new) result };
+
+    /// Appends a piece, or only its front, to the unfinished file, and answers how many bytes.
+    ///
+    /// Of a piece that isn't empty at least one byte is appended.
+    fn write(&mut self, piece: &[u8]) -> Result<usize, PortFault>
+        requires { IsTrue (is_open self.old) }
+        ensures count { IfOk result (λ n. n ≤ length piece.now) }
+        ensures some { IfOk result (λ n. 0 < length piece.now → 0 < n) }
+        ensures appended { IfOk result (λ n.
+            kept self.new ≡ option_map (with_more (take n piece.now)) (kept self.old)) }
+        ensures err { OnErr result (kept self.new ≡ kept self.old) }
+        ensures open { IsTrue (is_open self.new) }
+        ensures cause { HasCause (faults self.old) (faults self.new) result };
+
+    /// Finishes the unfinished file, which then stands behind the other finished ones.
+    fn finish(&mut self) -> Result<(), PortFault>
+        requires { IsTrue (is_open self.old) }
+        ensures ok { OnOk result (kept self.new ≡ option_map with_finished (kept self.old)) }
+        ensures closed { OnOk result (is_open self.new ≡ false) }
+        ensures err { OnErr result ((kept self.new ≡ kept self.old) × IsTrue (is_open self.new)) }
+        ensures cause { HasCause (faults self.old) (faults self.new) result };
+
+    /// Where the files are told, one of them is unfinished exactly where the object is open.
+    ghost open_told: { (s : Self) → IfSome (kept s) (λ files. is_open s ≡ is_some files.unfinished) };
+}

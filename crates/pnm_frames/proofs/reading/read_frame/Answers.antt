@@ -1,0 +1,13 @@
+use Rattle.std.proofs.Common.{◌≡◌, Result, Ok, ap, subst, ◌∙◌, arith}
+use Rattle.pnm_frames.specs.Fault.{Fault, Gives}
+use Rattle.pnm_frames.specs.Picture.{Picture}
+use Rattle.pnm_frames.specs.Reading.{frame_of}
+use Rattle.pnm_frames.specs.View.{picture_of}
+use Rattle.pnm_frames.proofs.Files.{frame-again}
+use Rattle.pnm_frames.proofs.reading.read_frame.Goals as goal
+
+pub returns-clause-only : goal.returns-clause-only
+returns-clause-only g c = λ told p fits spelled.
+    let read : frame_of c.args.limits (g.F.Frames.reading c.args.f.now).left ≡ Ok p =
+    ap (frame_of c.args.limits) spelled ∙ frame-again c.args.limits p (omega arith) (omega arith) fits in
+    subst (λ (r : Result Picture Fault). Gives picture_of c.read_all.result r) read (c.read_all.ensures.exact told)

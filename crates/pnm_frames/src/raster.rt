@@ -1,0 +1,153 @@
+// The raster: three samples a pixel, row by row.
+ghost use Rattle.std.specs.Prelude.{◌≡◌, ◌≤◌, ◌<◌, ◌^◌, ◌*◌, ◌++◌, ◌↔◌, IsTrue, IsSome, All, length, OnOk, IfOk};
+ghost use Rattle.std.specs.List.{flat_map};
+ghost use Rattle.pnm_frames.specs.Fault.{Gives, HasFrameCause};
+ghost use Rattle.pnm_frames.specs.Keeps.{ReadsOn};
+ghost use Rattle.pnm_frames.specs.Picture.{IsSample, interleaved, sample};
+ghost use Rattle.pnm_frames.specs.Reading.{samples_at};
+
+use crate::frame::Frame;
+use crate::header::Header;
+use crate::refusal::FrameRefusal;
+use byteorder::{BigEndian, ByteOrder};
+use cine_ports::{Frames, read_fully};
+use std::alloc::Global;
+
+/// Whether each value has 12 bits.
+fn all_fit(row: &[u16]) -> bool
+    ensures { IsTrue result ↔ All IsSample row.now }
+{
+    let mut largest = 0;
+    for value in row {
+        if *value > largest {
+            largest = *value;
+        }
+    }
+    largest <= 4095
+}
+
+/// Turns the bytes of a row into its values, high byte first.
+fn decode_row(bytes: &[u8], row: &mut [u16])
+    requires { length bytes.now ≡ 2 * length row.old }
+    ensures { bytes.now ≡ flat_map sample row.new }
+{
+    BigEndian::read_u16_into(bytes, row);
+}
+
+/// Reads as many samples as the row has, through a scratch buffer of two bytes a sample.
+fn read_row<F: Frames>(f: &mut F, scratch: &mut [u8], row: &mut [u16]) -> Result<(), FrameRefusal>
+    requires begun { IsTrue (F.reading f.old).is_begun }
+    requires scratch { length scratch.old ≡ 2 * length row.old }
+    ensures reads { IsSome (F.source f.old).files →
+        Gives (λ _. (row.new, (F.reading f.new).left)) result (samples_at (length row.old) (F.reading f.old).left) }
+    ensures spelled { OnOk result (IsSome (F.source f.old).files →
+        (F.reading f.old).left ≡ flat_map sample row.new ++ (F.reading f.new).left) }
+    ensures range { OnOk result (All IsSample row.new) }
+    ensures keeps { ReadsOn (F.source f.old) (F.source f.new) (F.reading f.old) (F.reading f.new) }
+    ensures cause { HasFrameCause (F.faults f.old) (F.faults f.new) result }
+{
+    if read_fully(f, scratch)? < scratch.len() {
+        return Err(FrameRefusal::NotPlain);
+    }
+    decode_row(scratch, row);
+    if !all_fit(row) {
+        return Err(FrameRefusal::NotPlain);
+    }
+    Ok(())
+}
+
+/// Writes the samples of a row into the rows of the three planes.
+fn split_row(row: &[u16], x: &mut [u16], y: &mut [u16], z: &mut [u16])
+    requires row { length row.now ≡ 3 * length x.old }
+    requires y { length y.old ≡ length x.old }
+    requires z { length z.old ≡ length x.old }
+    ensures { row.now ≡ interleaved x.new y.new z.new }
+{
+    for i in 0..x.len() {
+        x[i] = row[3 * i];
+        y[i] = row[3 * i + 1];
+        z[i] = row[3 * i + 2];
+    }
+}
+
+/// Reads the rows of three planes, through a row of samples and its bytes.
+fn read_rows<F: Frames>(
+    f: &mut F,
+    scratch: &mut [u8],
+    row: &mut [u16],
+    x: &mut [u16],
+    y: &mut [u16],
+    z: &mut [u16],
+    header: Header,
+) -> Result<(), FrameRefusal>
+    requires begun { IsTrue (F.reading f.old).is_begun }
+    requires width { header.width < 2 ^ 16 }
+    requires height { header.height < 2 ^ 16 }
+    requires row { length row.old ≡ 3 * header.width }
+    requires scratch { length scratch.old ≡ 2 * length row.old }
+    requires x { length x.old ≡ header.width * header.height }
+    requires y { length y.old ≡ header.width * header.height }
+    requires z { length z.old ≡ header.width * header.height }
+    ensures reads { IsSome (F.source f.old).files →
+        Gives (λ _. (interleaved x.new y.new z.new, (F.reading f.new).left)) result
+        (samples_at (3 * (header.width * header.height)) (F.reading f.old).left) }
+    ensures spelled { OnOk result (IsSome (F.source f.old).files →
+        (F.reading f.old).left ≡ flat_map sample (interleaved x.new y.new z.new) ++ (F.reading f.new).left) }
+    ensures x_range { OnOk result (All IsSample x.new) }
+    ensures y_range { OnOk result (All IsSample y.new) }
+    ensures z_range { OnOk result (All IsSample z.new) }
+    ensures keeps { ReadsOn (F.source f.old) (F.source f.new) (F.reading f.old) (F.reading f.new) }
+    ensures cause { HasFrameCause (F.faults f.old) (F.faults f.new) result }
+{
+    let width = header.width as usize;
+    let mut start = 0;
+    for _ in 0..header.height {
+        read_row(f, scratch, row)?;
+        let end = start + width;
+        split_row(
+            row,
+            &mut x[start..end],
+            &mut y[start..end],
+            &mut z[start..end],
+        );
+        start = end;
+    }
+    Ok(())
+}
+
+/// Reads the planes of a frame of this width and height.
+pub fn read_raster<F: Frames>(
+    alloc: Global,
+    f: &mut F,
+    header: Header,
+) -> Result<Frame, FrameRefusal>
+    requires begun { IsTrue (F.reading f.old).is_begun }
+    requires width { header.width < 2 ^ 16 }
+    requires height { header.height < 2 ^ 16 }
+    ensures reads { IsSome (F.source f.old).files →
+        Gives (λ frame. (interleaved frame.x.items frame.y.items frame.z.items, (F.reading f.new).left)) result
+        (samples_at (3 * (header.width * header.height)) (F.reading f.old).left) }
+    ensures spelled { IfOk result (λ frame. IsSome (F.source f.old).files → (F.reading f.old).left
+        ≡ flat_map sample (interleaved frame.x.items frame.y.items frame.z.items) ++ (F.reading f.new).left) }
+    ensures width { IfOk result (λ frame. frame.width ≡ header.width) }
+    ensures height { IfOk result (λ frame. frame.height ≡ header.height) }
+    ensures keeps { ReadsOn (F.source f.old) (F.source f.new) (F.reading f.old) (F.reading f.new) }
+    ensures cause { HasFrameCause (F.faults f.old) (F.faults f.new) result }
+{
+    let across = header.width as usize;
+    let count = across * header.height as usize;
+    let mut x = vec![in alloc; 0u16; count]?;
+    let mut y = vec![in alloc; 0u16; count]?;
+    let mut z = vec![in alloc; 0u16; count]?;
+    let mut row = vec![in alloc; 0u16; 3 * across]?;
+    let mut scratch = vec![in alloc; 0u8; 6 * across]?;
+    read_rows(f, &mut scratch, &mut row, &mut x, &mut y, &mut z, header)?;
+    let Header { width, height } = header;
+    Ok(Frame {
+        width,
+        height,
+        x,
+        y,
+        z,
+    })
+}

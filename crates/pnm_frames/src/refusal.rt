@@ -1,0 +1,37 @@
+// Why a frame couldn't be read.
+ghost use Rattle.std.specs.Prelude.{◌≡◌};
+ghost use Rattle.pnm_frames.specs.declared.refusal.FrameRefusal.TheVariants.{Memory, Source};
+
+use cine_ports::Failed;
+use std::alloc::AllocError;
+use thiserror::Error;
+
+/// Why a call that reads a frame was refused.
+#[derive(Clone, Copy, Debug, PartialEq, Eq, Error)]
+pub enum FrameRefusal {
+    /// The file isn't plain.
+    #[error("the file is not plain")]
+    NotPlain,
+    /// The source failed, and counted that.
+    #[error("the source failed")]
+    Source,
+    /// Memory was wanting.
+    #[error("out of memory")]
+    Memory,
+}
+
+impl From<Failed> for FrameRefusal {
+    ghost from_gives = { λ _ e. e ≡ Source };
+
+    fn from(_e: Failed) -> FrameRefusal {
+        FrameRefusal::Source
+    }
+}
+
+impl From<AllocError> for FrameRefusal {
+    ghost from_gives = { λ _ e. e ≡ Memory };
+
+    fn from(_e: AllocError) -> FrameRefusal {
+        FrameRefusal::Memory
+    }
+}
