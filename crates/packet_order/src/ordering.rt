@@ -1,9 +1,11 @@
 // The packets of a tile-part in their order.
-ghost use Rattle.std.specs.Prelude.{◌≡◌, ◌<◌, ◌≤◌, IfOk, OnOk, length};
-ghost use Rattle.std.specs.List.{insert};
+ghost use Rattle.std.specs.Prelude.{false, ◌≡◌, ◌<◌, ◌≤◌, IfOk, OnOk, length};
+ghost use Rattle.std.specs.List.{insert, AllPairs};
+ghost use Rattle.std.specs.List.Sorted.{IsPermutation};
 ghost use Rattle.cine_nums.specs.Profile.{parts_of};
 ghost use Rattle.band_geometry.specs.Sizes.{precinct_count};
-ghost use Rattle.packet_order.specs.Order.{comes_before, packets_of_row, packets_of_res, packets_of_res_in, packets_of_component, ordered_packets};
+ghost use Rattle.packet_order.specs.Order.{comes_before, packets_of_row, packets_of_res, packets_of_res_in};
+ghost use Rattle.packet_order.specs.Order.{packets_of_component, packets_of_part, ordered_packets};
 ghost use Rattle.packet_order.specs.Sorting.{insert_by, insert_all};
 
 use crate::packet::PacketId;
@@ -18,7 +20,10 @@ use std::alloc::{AllocError, Global};
 /// has a packet too.
 pub fn order(alloc: Global, geometry: &Geometry, part: u8) -> Result<Vec<PacketId>, AllocError>
     requires { part < parts_of geometry.now.profile }
-    ensures { IfOk result (λ packets. packets.items ≡ ordered_packets geometry.now part) }
+    ensures value { IfOk result (λ packets. packets.items ≡ ordered_packets geometry.now part) }
+    // That list has each packet of the tile-part, and none of them comes before an earlier one.
+    ensures members { IfOk result (λ packets. IsPermutation (packets_of_part geometry.now part) packets.items) }
+    ensures sorted { IfOk result (λ packets. AllPairs (λ a b. comes_before geometry.now b a ≡ false) packets.items) }
 {
     let mut packets = Vec::new(alloc);
     for component in 0..3 {
@@ -35,7 +40,8 @@ fn add_component(
     component: u8,
 ) -> Result<(), AllocError>
     requires { component < 3 }
-    ensures { OnOk result (packets.new.items ≡ insert_all (comes_before geometry.now) packets.old.items (packets_of_component geometry.now part component)) }
+    ensures { OnOk result (packets.new.items ≡ insert_all (comes_before geometry.now) packets.old.items
+        (packets_of_component geometry.now part component)) }
 {
     for res in 0..geometry.levels + 1 {
         add_res_of_part(packets, geometry, part, component, res)?;
@@ -53,7 +59,8 @@ fn add_res_of_part(
 ) -> Result<(), AllocError>
     requires component { component < 3 }
     requires res { res ≤ geometry.now.levels }
-    ensures { OnOk result (packets.new.items ≡ insert_all (comes_before geometry.now) packets.old.items (packets_of_res_in geometry.now part component res)) }
+    ensures { OnOk result (packets.new.items ≡ insert_all (comes_before geometry.now) packets.old.items
+        (packets_of_res_in geometry.now part component res)) }
 {
     if part_with(geometry, component, res) == part {
         return add_res(packets, geometry, component, res);
@@ -69,7 +76,8 @@ fn add_res(
     res: u8,
 ) -> Result<(), AllocError>
     requires { res ≤ geometry.now.levels }
-    ensures { OnOk result (packets.new.items ≡ insert_all (comes_before geometry.now) packets.old.items (packets_of_res geometry.now component res)) }
+    ensures { OnOk result (packets.new.items ≡ insert_all (comes_before geometry.now) packets.old.items
+        (packets_of_res geometry.now component res)) }
 {
     let (across, down) = geometry.precincts(res);
     for py in 0..down {
@@ -92,7 +100,8 @@ fn add_row(
     across: u32,
 ) -> Result<(), AllocError>
     requires { across ≡ precinct_count geometry.now.levels geometry.now.width first.res }
-    ensures { OnOk result (packets.new.items ≡ insert_all (comes_before geometry.now) packets.old.items (packets_of_row geometry.now first.component first.res first.py)) }
+    ensures { OnOk result (packets.new.items ≡ insert_all (comes_before geometry.now) packets.old.items
+        (packets_of_row geometry.now first.component first.res first.py)) }
 {
     for px in 0..across {
         let id = PacketId {

@@ -1,5 +1,6 @@
 // Reading the head of a tile-part.
-ghost use Rattle.std.specs.Prelude.{◌≡◌, ◌+◌, ◌≤◌, ◌<◌, ◌↔◌, ◌^◌, ℕ, Ok, Err, IfOk, IfErr, MatchResult, length, slice_range};
+ghost use Rattle.std.specs.Prelude.{◌≡◌, ◌+◌, ◌≤◌, ◌<◌, ◌^◌, ℕ, length, slice_range};
+ghost use Rattle.std.specs.Prelude.{None, Some, Ok, Err, IfOk, IfErr, MatchResult};
 ghost use Rattle.tile_parts.specs.Bytes.{long_at};
 ghost use Rattle.tile_parts.specs.Head.{part_head_of};
 ghost use Rattle.tile_parts.specs.Reading.{sot_fault, marker_at, Ends, IsPart, IsFault};
