@@ -6,7 +6,8 @@ use crate::places::{BlockId, BlockRange, Rect};
 use cine_nums::Orient;
 
 impl Geometry {
-    ghost use Rattle.band_geometry.specs.Bands.{HasBand, band_of, IsBlock, block_of, IsPlaceIn, HoldsPlace, precinct_blocks_of, IsInRange, block_columns, block_rows};
+    ghost use Rattle.band_geometry.specs.Bands.{HasBand, band_of, IsBlock, block_of, IsPlaceIn, HoldsPlace};
+    ghost use Rattle.band_geometry.specs.Bands.{precinct_blocks_of, IsInRange, block_columns, block_rows};
     ghost use Rattle.band_geometry.specs.Sizes.{precinct_count};
     ghost use Rattle.band_geometry.specs.declared.places.BlockId.{BlockId};
 
@@ -70,7 +71,8 @@ impl Geometry {
     pub fn block(&self, id: BlockId) -> Rect
         requires { IsBlock self.now id }
         ensures value { result ≡ block_of self.now id }
-        ensures inside { (x y : ℕ) → IsPlaceIn result x y → IsPlaceIn (band_of self.now id.res id.orient) x y }
+        ensures inside { (x y : ℕ) → IsPlaceIn result x y →
+            IsPlaceIn (band_of self.now id.res id.orient) x y }
         ensures apart { (x y : ℕ) → IsPlaceIn result x y → (other : BlockId) →
             HoldsPlace self.now id.component id.res id.orient x y other → other ≡ id }
     {
@@ -91,7 +93,8 @@ impl Geometry {
         requires row { py < precinct_count self.now.levels self.now.height res }
         ensures value { result ≡ precinct_blocks_of self.now res orient px py }
         // They are those blocks of the band whose upper left place lies in the precinct's 128 by 128.
-        ensures members { (x y : ℕ) → x < block_columns self.now res orient → y < block_rows self.now res orient →
+        ensures members { (x y : ℕ) →
+            x < block_columns self.now res orient → y < block_rows self.now res orient →
             (IsInRange result x y ↔ (32 * x / 128 ≡ px) × (32 * y / 128 ≡ py)) }
     {
         let (columns, rows) = self.block_grid(res, orient);

@@ -8,7 +8,8 @@ use cine_nums::Orient;
 
 impl Geometry {
     ghost use Rattle.band_geometry.specs.Bands.{HasBand, IsBlock, block_columns, block_rows};
-    ghost use Rattle.band_geometry.specs.Counts.{band_count, res_count, count_below, component_count, count_before_band, place_in_res, number_of};
+    ghost use Rattle.band_geometry.specs.Counts.{band_count, res_count, count_below, component_count};
+    ghost use Rattle.band_geometry.specs.Counts.{count_before_band, place_in_res};
     ghost use Rattle.band_geometry.specs.Numbering.{all_blocks};
 
     /// How many code blocks the frame has, over its three components.

@@ -1,0 +1,19 @@
+//! The order of the packets in a tile-part: progression by component, position and resolution
+//! (ISO/IEC 15444-1, B.12.1.5), for a tile-part that holds one component.
+//!
+//! `order` answers the list of all precincts of the tile-part, sorted by the place of their upper
+//! left corner on the reference grid, row first, and where places are equal by the resolution.
+//!
+//! ```
+//! let geometry = Geometry::new(Profile::TwoK, 5, 1, 1);
+//! let packets = order(alloc, &geometry, 0)?;
+//! assert_eq!(packets.len(), 6);
+//! ```
+#![tactic(auto)]
+
+mod ordering;
+mod packet;
+mod place;
+
+pub use ordering::order;
+pub use packet::PacketId;

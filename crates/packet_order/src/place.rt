@@ -1,0 +1,53 @@
+// Where packets stand on the reference grid, and which tile-part holds them.
+ghost use Rattle.std.specs.Prelude.{◌≡◌, ◌<◌};
+ghost use Rattle.band_geometry.specs.Parts.{part_of_res};
+ghost use Rattle.packet_order.specs.Order.{place_of, comes_before};
+
+use crate::packet::PacketId;
+use band_geometry::Geometry;
+use cine_nums::Profile;
+
+// The place of a packet's precinct on the reference grid, across and down.
+fn place(geometry: &Geometry, id: PacketId) -> (u64, u64)
+    ensures across { result.0 ≡ place_of geometry.now.levels id.res id.px }
+    ensures down { result.1 ≡ place_of geometry.now.levels id.res id.py }
+{
+    let side: u64 = if id.res == 0 { 128 } else { 256 };
+    let scale = 1u64 << geometry.levels.saturating_sub(id.res);
+    (
+        u64::from(id.px) * side * scale,
+        u64::from(id.py) * side * scale,
+    )
+}
+
+// Whether one packet stands before another.
+pub(crate) fn comes_first(geometry: &Geometry, a: PacketId, b: PacketId) -> bool
+    ensures { result ≡ comes_before geometry.now a b }
+{
+    let (ax, ay) = place(geometry, a);
+    let (bx, by) = place(geometry, b);
+    if ay != by {
+        ay < by
+    } else if ax != bx {
+        ax < bx
+    } else {
+        a.res < b.res
+    }
+}
+
+// The tile-part that holds a resolution of a component.
+pub(crate) fn part_with(geometry: &Geometry, component: u8, res: u8) -> u8
+    requires { component < 3 }
+    ensures { result ≡ part_of_res geometry.now.profile geometry.now.levels component res }
+{
+    match geometry.profile {
+        Profile::TwoK => component,
+        Profile::FourK => {
+            if res < geometry.levels {
+                component
+            } else {
+                3 + component
+            }
+        }
+    }
+}

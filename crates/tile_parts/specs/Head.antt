@@ -1,0 +1,8 @@
+-- The writer's head of a tile-part: the segment SOT and the marker SOD (ISO/IEC 15444-1, A.4.2, A.4.3).
+use Rattle.std.specs.Prelude.{ℕ, List, [], ◌∷◌, ◌++◌}
+use Rattle.tile_parts.specs.Bytes.{long_bytes}
+
+-- FF90, Lsot 10, Isot 0, Psot, TPsot, TNsot, FF93
+abbrev pub part_head_of : ℕ → ℕ → ℕ → List ℕ
+part_head_of length index count =
+    255 ∷ 144 ∷ 0 ∷ 10 ∷ 0 ∷ 0 ∷ (long_bytes length ++ (index ∷ count ∷ 255 ∷ 147 ∷ []))
