@@ -1,1 +1,5 @@
+mod Arithmetic
+mod Consumed
+mod Ends
+mod Look
 mod Vectors
