@@ -2,4 +2,5 @@ mod Arithmetic
 mod Consumed
 mod Ends
 mod Look
+mod Out
 mod Vectors
