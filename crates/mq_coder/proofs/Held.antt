@@ -29,7 +29,7 @@ pub record Held (from to p : ℕ) (bs : List ℕ) (c ct low size s : ℕ) : Type
   pub below : (low + size) * 2 ^ p ≤ to * 2 ^ s
   pub reached : p + 15 ≤ bits false bs → from ≤ digits bs p
 
-less_bound : (bs : List ℕ) (bound bound' ct ct' : ℕ) → Shape bs bound ct → bound' ≤ bound → ct' ≤ ct → Shape bs bound' ct'
+pub less_bound : (bs : List ℕ) (bound bound' ct ct' : ℕ) → Shape bs bound ct → bound' ≤ bound → ct' ≤ ct → Shape bs bound' ct'
 less_bound bs bound bound' ct ct' (none e le) h h' = none e (omega arith)
 less_bound bs bound bound' ct ct' (some pre x e clean low le behind) h h' =
     some pre x e clean (omega arith) (omega arith) (λ f. let i : x * 2 ^ 27 + bound ≤ 144 * 2 ^ 27 = behind f in omega arith)

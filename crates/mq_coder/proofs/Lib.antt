@@ -2,6 +2,8 @@ mod Arithmetic
 mod Consumed
 mod Ends
 mod Held
+mod Estimates
+mod Stands
 mod Look
 mod Out
 mod Vectors
