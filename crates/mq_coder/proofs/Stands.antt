@@ -199,3 +199,76 @@ code_chosen x cx bit =
           less_lower x cx bit not_swap ∙ ap (λ v. renormalise 15 v) (chosen_lower x cx bit l) ∙ ap (λ v. renormalise 15 (chosen x cx v)) (sym l)
       ]
     ]
+
+part_lower : (it : Interval) (cx : ℕ) → part it cx true ≡ record { low = it.low; size = estimate it.contexts cx; scale = it.scale; contexts = part_contexts it.contexts it.size cx true }
+unfolding part
+part_lower it cx = refl
+
+part_upper : (it : Interval) (cx : ℕ) → part it cx false ≡ record { low = it.low + estimate it.contexts cx; size = it.size - estimate it.contexts cx; scale = it.scale; contexts = part_contexts it.contexts it.size cx false }
+unfolding part
+part_upper it cx = refl
+
+-- a part, bounded by itself
+chosen_stands : (from to p : ℕ) (x : Coding) (it : Interval) (cx : ℕ) (lower : Bool) → Ready from to p x it → Stands from to p (chosen x cx lower) (part it cx lower)
+chosen_stands from to p x it cx true h =
+    let e1 : x.a ≡ it.size = h.stands.a_is in
+    let e2 : x.contexts ≡ it.contexts = h.stands.contexts_are in
+    let wide : 2 ^ 15 ≤ it.size = h.wide in
+    let few : (1 ≤ estimate it.contexts cx) × (estimate it.contexts cx ≤ 22017) = estimate_bounded it.contexts cx in
+    rw (part_lower it cx) record {
+      held = same_held from to p x.bytes (x.c + 0) x.c x.ct (it.low + 0) it.low (estimate it.contexts cx) (estimate it.contexts cx) it.scale (omega arith) (omega arith) refl
+        (narrowed from to p x.bytes x.c x.ct it.low it.size it.scale 0 (estimate it.contexts cx) h.stands.held few.0 (omega arith));
+      live = h.stands.live;
+      a_is = ap (λ v. estimate v cx) e2;
+      contexts_are = ap (λ v. part_contexts v x.a cx true) e2 ∙ ap (λ v. part_contexts it.contexts v cx true) e1
+    }
+chosen_stands from to p x it cx false h =
+    let e1 : x.a ≡ it.size = h.stands.a_is in
+    let e2 : x.contexts ≡ it.contexts = h.stands.contexts_are in
+    let e3 : estimate x.contexts cx ≡ estimate it.contexts cx = ap (λ v. estimate v cx) e2 in
+    let wide : 2 ^ 15 ≤ it.size = h.wide in
+    let few : (1 ≤ estimate it.contexts cx) × (estimate it.contexts cx ≤ 22017) = estimate_bounded it.contexts cx in
+    rw (part_upper it cx) record {
+      held = same_held from to p x.bytes (x.c + estimate it.contexts cx) (x.c + estimate x.contexts cx) x.ct (it.low + estimate it.contexts cx) (it.low + estimate it.contexts cx) (it.size - estimate it.contexts cx) (it.size - estimate it.contexts cx) it.scale (omega arith) refl refl
+        (narrowed from to p x.bytes x.c x.ct it.low it.size it.scale (estimate it.contexts cx) (it.size - estimate it.contexts cx) h.stands.held (omega arith) (omega arith));
+      live = h.stands.live;
+      a_is = omega arith;
+      contexts_are = ap (λ v. part_contexts v x.a cx false) e2 ∙ ap (λ v. part_contexts it.contexts v cx false) e1
+    }
+
+part_pos : (from to p : ℕ) (x : Coding) (it : Interval) → Stands from to p x it → 2 ^ 15 ≤ it.size * 2 ^ 15
+part_pos from to p x it h = let pos : 1 ≤ it.size = h.held.pos in omega arith
+
+-- a symbol keeps an earlier bound
+pub coded_ready : (from to p : ℕ) (x : Coding) (it : Interval) (cx : ℕ) (bit : Bool) → Ready from to p x it → Ready from to p (code_symbol x (cx, bit)) (doubled 15 (part it cx (lower_of x.contexts x.a cx bit)))
+coded_ready from to p x it cx bit h =
+    let s : Stands from to p (chosen x cx (lower_of x.contexts x.a cx bit)) (part it cx (lower_of x.contexts x.a cx bit)) = chosen_stands from to p x it cx (lower_of x.contexts x.a cx bit) h in
+    rw (code_chosen x cx bit) (renormalise_ready from to p 15 _ _ s (part_pos from to p _ _ s))
+
+-- and the part that it takes is a bound of its own
+pub coded_fresh : (from to p : ℕ) (x : Coding) (it : Interval) (cx : ℕ) (bit : Bool) → Ready from to p x it →
+    let it' = part it cx (lower_of x.contexts x.a cx bit) in
+    Ready it'.low (it'.low + it'.size) it'.scale (code_symbol x (cx, bit)) (doubled 15 it')
+coded_fresh from to p x it cx bit h =
+    let s : Stands from to p (chosen x cx (lower_of x.contexts x.a cx bit)) (part it cx (lower_of x.contexts x.a cx bit)) = chosen_stands from to p x it cx (lower_of x.contexts x.a cx bit) h in
+    rw (code_chosen x cx bit) (renormalise_ready _ _ _ 15 _ _ (renewed from to p _ _ s) (part_pos from to p _ _ s))
+  where
+    renewed : (from to p : ℕ) (x : Coding) (it : Interval) → Stands from to p x it → Stands it.low (it.low + it.size) it.scale x it
+    renewed from to p x it h = record {
+      held = fresh from to p x.bytes x.c x.ct it.low it.size it.scale h.held;
+      live = h.live; a_is = h.a_is; contexts_are = h.contexts_are
+    }
+
+pub start_ready : Ready 0 (2 ^ 15) 0 start_coding start_interval
+unfolding start_coding start_interval
+start_ready = record {
+    stands = record {
+      held = record {
+        pos = omega arith; top = omega arith; few = omega arith; bits_are = omega arith; low_is = omega arith;
+        shape = none refl (omega arith); later = omega arith; above = omega arith; below = omega arith;
+        reached = λ h. absurd (omega arith)
+      };
+      live = omega arith; a_is = refl; contexts_are = refl
+    };
+    wide = omega arith
+  }
