@@ -4,6 +4,7 @@ mod Ends
 mod Held
 mod Estimates
 mod Stands
+mod Ending
 mod Look
 mod Out
 mod Vectors

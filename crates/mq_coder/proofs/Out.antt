@@ -57,6 +57,7 @@ pub record Out (x : Coding) (size : ℕ) (y : Coding) : Type 0 where
   pub small : y.c < 2 ^ k
   pub taken_is : taken 0 false base ≡ taken 0 false x.bytes + carry
   pub bits_are : bits false base ≡ bits false x.bytes
+  pub length_is : length base ≡ length x.bytes
   pub clean : Clean false base
   pub clean_all : Clean false (base ++ byte ∷ [])
   pub grows : (d : ℕ) → d ≤ bits false x.bytes → look 0 false x.bytes d ≤ look 0 false base d
@@ -69,6 +70,7 @@ record Base (x : Coding) (base : List ℕ) (carry c : ℕ) : Type 0 where
   is_c : x.c ≡ carry * 2 ^ 27 + c
   taken_is : taken 0 false base ≡ taken 0 false x.bytes + carry
   bits_are : bits false base ≡ bits false x.bytes
+  length_is : length base ≡ length x.bytes
   clean : Clean false base
   grows : (d : ℕ) → d ≤ bits false x.bytes → look 0 false x.bytes d ≤ look 0 false base d
 
@@ -97,7 +99,7 @@ out_8 x size base carry c h ends lt top =
       base = base; carry = carry; byte = c / 2 ^ 19; k = 19;
       bytes_are = refl; width_is = rw ends refl; unit = refl;
       split = omega arith; small = mod_below c (2 ^ 19) (pow_pos 19);
-      taken_is = h.taken_is; bits_are = h.bits_are; clean = h.clean; clean_all = all; grows = h.grows;
+      taken_is = h.taken_is; bits_are = h.bits_are; length_is = h.length_is; clean = h.clean; clean_all = all; grows = h.grows;
       shape = some base (c / 2 ^ 19) refl all (omega arith) (bound_8 c size top) (λ e. absurd (false≢true (sym ends ∙ e)));
       same_a = refl; same_contexts = refl
     }
@@ -114,14 +116,14 @@ out_7 x size base carry c h ends le pos top =
       base = base; carry = carry; byte = c / 2 ^ 20; k = 20;
       bytes_are = refl; width_is = rw ends refl; unit = refl;
       split = omega arith; small = mod_below c (2 ^ 20) (pow_pos 20);
-      taken_is = h.taken_is; bits_are = h.bits_are; clean = h.clean; clean_all = all; grows = h.grows;
+      taken_is = h.taken_is; bits_are = h.bits_are; length_is = h.length_is; clean = h.clean; clean_all = all; grows = h.grows;
       shape = some base (c / 2 ^ 20) refl all (omega arith) (bound_7 c size top) (λ e. behind_ff c size le);
       same_a = refl; same_contexts = refl
     }
 
 base_same : (x : Coding) → Clean false x.bytes → Base x x.bytes 0 x.c
 base_same x clean = record {
-  is_c = omega arith; taken_is = omega arith; bits_are = refl; clean = clean; grows = λ d le. omega arith
+  is_c = omega arith; taken_is = omega arith; bits_are = refl; length_is = refl; clean = clean; grows = λ d le. omega arith
 }
 
 raised_clean : (pre : List ℕ) (l : ℕ) → Clean false (pre ++ l ∷ []) → l + 1 ≤ 255 → (ends_ff false pre ≡ true → l + 1 ≤ 143) → Clean false (pre ++ (l + 1) ∷ [])
@@ -141,6 +143,7 @@ base_raised x pre l e clean clean' le =
       is_c = omega arith;
       taken_is = rw e (omega arith);
       bits_are = rw e (bits_snoc false pre (l + 1) ∙ sym (bits_snoc false pre l));
+      length_is = rw e (length-append pre ((l + 1) ∷ []) ∙ sym (length-append pre (l ∷ [])));
       clean = clean';
       grows = λ d h. rw e (look_raised 0 false pre l d clean clean' (let i : d ≤ bits false (pre ++ l ∷ []) = rw e at h in i))
     }
