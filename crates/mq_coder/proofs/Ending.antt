@@ -36,7 +36,7 @@ filled_less c size wide le =
     let low : c % 2 ^ 16 < 2 ^ 16 = mod_below c (2 ^ 16) (pow_pos 16) in
     record { d = 32767 - c % 2 ^ 16; units = 2 * (c / 2 ^ 16) + 1; is = omega arith; fits = omega arith; ones = omega arith }
 
-bits_set : (x : Coding) → 2 ^ 15 ≤ x.a → Filled x.c x.a (set_bits x).c
+pub bits_set : (x : Coding) → 2 ^ 15 ≤ x.a → Filled x.c x.a (set_bits x).c
 unfolding set_bits
 bits_set x wide =
     elim (cases_lt (x.c / 2 ^ 16 * 2 ^ 16 + 65535) (x.c + x.a)) [
@@ -44,11 +44,11 @@ bits_set x wide =
     | inr ge ↦ subst (λ v. Filled x.c x.a v) (sym (cond-false _ _ _ (le-ltb _ _ ge))) (filled_less x.c x.a wide ge)
     ]
 
-set_bytes : (x : Coding) → (set_bits x).bytes ≡ x.bytes
+pub set_bytes : (x : Coding) → (set_bits x).bytes ≡ x.bytes
 unfolding set_bits
 set_bytes x = refl
 
-set_ct : (x : Coding) → (set_bits x).ct ≡ x.ct
+pub set_ct : (x : Coding) → (set_bits x).ct ≡ x.ct
 unfolding set_bits
 set_ct x = refl
 

@@ -5,6 +5,7 @@ mod Held
 mod Estimates
 mod Stands
 mod Ending
+mod Final
 mod Look
 mod Out
 mod Vectors

@@ -9,7 +9,7 @@ use Rattle.mq_coder.specs.Code.{Coding, last_byte, raise_last, put_7, put_8, byt
 use Rattle.mq_coder.proofs.Look.{cut, join}
 use Rattle.mq_coder.proofs.Consumed.{taken, bits, ends_ff, Clean, taken_snoc, bits_snoc, ends_snoc, Clean-snoc, Clean-front, Clean-last, look_raised}
 
-last_place : (pre : List ℕ) (x : ℕ) → length (pre ++ x ∷ []) - 1 ≡ length pre
+pub last_place : (pre : List ℕ) (x : ℕ) → length (pre ++ x ∷ []) - 1 ≡ length pre
 last_place pre x = let h : length (pre ++ x ∷ []) ≡ length pre + 1 = length-append pre (x ∷ []) in omega arith
 
 pub last_snoc : (pre : List ℕ) (x : ℕ) → last_byte (pre ++ x ∷ []) ≡ x
