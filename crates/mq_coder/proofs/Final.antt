@@ -110,23 +110,36 @@ turns_fit : (a b c : ℕ) → a ≤ 12 → b ≤ 8 → c ≤ 8 → a ≤ 11 ⊎ 
 turns_fit a b c h1 h2 h3 (inl h) = omega arith
 turns_fit a b c h1 h2 h3 (inr h) = omega arith
 
-pub spelt : (from to p : ℕ) (x : Coding) (it : Interval) → Ready from to p x it → Spelt from p (shift_out (shift_out (set_bits x))).bytes it.low it.size it.scale
+-- the two shifts of an ending
+pub record Shifts (from to p : ℕ) (x : Coding) (low s : ℕ) : Type 0 where
+  pub f : Filled x.c x.a (set_bits x).c
+  pub one : Shifted from to p (set_bits x) (low + f.d) s (shift_out (set_bits x))
+  pub two : Shifted from to p (shift_out (set_bits x)) ((low + f.d) * 2 ^ (set_bits x).ct) (s + (set_bits x).ct) (shift_out (shift_out (set_bits x)))
+
+shifts : (from to p : ℕ) (x : Coding) (it : Interval) → Ready from to p x it → Shifts from to p x it.low it.scale
+shifts from to p x it h =
+    let a_is : x.a ≡ it.size = h.stands.a_is in
+    let f : Filled x.c x.a (set_bits x).c = bits_set x (let w : 2 ^ 15 ≤ x.a = rw a_is h.wide in w) in
+    let one : Shifted from to p (set_bits x) (it.low + f.d) it.scale (shift_out (set_bits x)) =
+      shift_out_held from to p (set_bits x) (it.low + f.d) it.scale (set_held from to p x it h f) in
+    record {
+      f = f; one = one;
+      two = shift_out_held from to p (shift_out (set_bits x)) ((it.low + f.d) * 2 ^ (set_bits x).ct) (it.scale + (set_bits x).ct) one.held
+    }
+
+spelt : (from to p : ℕ) (x : Coding) (it : Interval) → Ready from to p x it → Spelt from p (shift_out (shift_out (set_bits x))).bytes it.low it.size it.scale
 spelt from to p x it h =
     let a_is : x.a ≡ it.size = h.stands.a_is in
     let few : x.ct ≤ 12 = h.stands.held.few in
-    let f : Filled x.c x.a (set_bits x).c = bits_set x (let w : 2 ^ 15 ≤ x.a = rw a_is h.wide in w) in
-    let fits : f.d + 1 ≤ x.a = f.fits in
-    let one : Shifted from to p (set_bits x) (it.low + f.d) it.scale (shift_out (set_bits x)) =
-      shift_out_held from to p (set_bits x) (it.low + f.d) it.scale (set_held from to p x it h f) in
-    let two : Shifted from to p (shift_out (set_bits x)) ((it.low + f.d) * 2 ^ (set_bits x).ct) (it.scale + (set_bits x).ct) (shift_out (shift_out (set_bits x))) =
-      shift_out_held from to p (shift_out (set_bits x)) ((it.low + f.d) * 2 ^ (set_bits x).ct) (it.scale + (set_bits x).ct) one.held in
-    let last : Held from to p (shift_out (shift_out (set_bits x))).bytes (shift_out (shift_out (set_bits x))).c (shift_out (shift_out (set_bits x))).ct ((it.low + f.d) * 2 ^ x.ct * 2 ^ (shift_out (set_bits x)).ct) 1 (it.scale + x.ct + (shift_out (set_bits x)).ct) =
-      subst (λ v. Held from to p (shift_out (shift_out (set_bits x))).bytes (shift_out (shift_out (set_bits x))).c (shift_out (shift_out (set_bits x))).ct ((it.low + f.d) * 2 ^ v * 2 ^ (shift_out (set_bits x)).ct) 1 (it.scale + v + (shift_out (set_bits x)).ct)) (set_ct x) two.held in
-    let seven : 7 ≤ (shift_out (set_bits x)).ct = one.seven in
-    let seven' : 7 ≤ (shift_out (shift_out (set_bits x))).ct = two.seven in
-    spell from to p x.bytes (shift_out (shift_out (set_bits x))).bytes x.c (shift_out (shift_out (set_bits x))).c it.low it.size it.scale f.d (set_bits x).c f.units x.ct (shift_out (set_bits x)).ct (shift_out (shift_out (set_bits x))).ct
-      h.stands.held f.is (omega arith) f.ones last two.small
-      (turns_fit x.ct (shift_out (set_bits x)).ct (shift_out (shift_out (set_bits x))).ct few one.eight two.eight (few_turns x it from to p h))
+    let t : Shifts from to p x it.low it.scale = shifts from to p x it h in
+    let fits : t.f.d + 1 ≤ x.a = t.f.fits in
+    let last : Held from to p (shift_out (shift_out (set_bits x))).bytes (shift_out (shift_out (set_bits x))).c (shift_out (shift_out (set_bits x))).ct ((it.low + t.f.d) * 2 ^ x.ct * 2 ^ (shift_out (set_bits x)).ct) 1 (it.scale + x.ct + (shift_out (set_bits x)).ct) =
+      subst (λ v. Held from to p (shift_out (shift_out (set_bits x))).bytes (shift_out (shift_out (set_bits x))).c (shift_out (shift_out (set_bits x))).ct ((it.low + t.f.d) * 2 ^ v * 2 ^ (shift_out (set_bits x)).ct) 1 (it.scale + v + (shift_out (set_bits x)).ct)) (set_ct x) t.two.held in
+    let seven : 7 ≤ (shift_out (set_bits x)).ct = t.one.seven in
+    let seven' : 7 ≤ (shift_out (shift_out (set_bits x))).ct = t.two.seven in
+    spell from to p x.bytes (shift_out (shift_out (set_bits x))).bytes x.c (shift_out (shift_out (set_bits x))).c it.low it.size it.scale t.f.d (set_bits x).c t.f.units x.ct (shift_out (set_bits x)).ct (shift_out (shift_out (set_bits x))).ct
+      h.stands.held t.f.is (omega arith) t.f.ones last t.two.small
+      (turns_fit x.ct (shift_out (set_bits x)).ct (shift_out (shift_out (set_bits x))).ct few t.one.eight t.two.eight (few_turns x it from to p h))
       (omega arith)
 
 -- at a bound's scale the digits are those of the number's front, in which the bound lies
@@ -176,9 +189,25 @@ drop_ff_not : (base : List ℕ) (x : ℕ) → (x ≡ 255 → ⊥) → drop_ff (b
 unfolding drop_ff
 drop_ff_not base x h = cond-false _ _ _ (ne_eqb _ _ (λ e. h (sym (last_snoc base x) ∙ e)))
 
-pub drop_ff_look : (base : List ℕ) (x d : ℕ) → look 0 false (drop_ff (base ++ x ∷ [])) d ≡ look 0 false (base ++ x ∷ []) d
+drop_ff_look : (base : List ℕ) (x d : ℕ) → look 0 false (drop_ff (base ++ x ∷ [])) d ≡ look 0 false (base ++ x ∷ []) d
 drop_ff_look base x d =
     elim (cases_eq x 255) [
       inl e ↦ rw (e, drop_ff_is base) (sym (look_ff 0 false base d))
     | inr ne ↦ ap (λ v. look 0 false v d) (drop_ff_not base x ne)
     ]
+
+ended_is : (x : Coding) → ended x ≡ drop_ff (shift_out (shift_out (set_bits x))).bytes
+unfolding ended
+ended_is x = refl
+
+ended_digits : (from to p : ℕ) (x : Coding) (it : Interval) (s : ℕ) → Ready from to p x it → digits (ended x) s ≡ digits (shift_out (shift_out (set_bits x))).bytes s
+ended_digits from to p x it s h =
+    let t : Shifts from to p x it.low it.scale = shifts from to p x it h in
+    rw (ended_is x, digits_look, digits_look, t.two.bytes_are) (drop_ff_look t.two.base t.two.byte (s + 15))
+
+-- an ended code lies within the bounds of an earlier interval
+pub ended_within : (from to p : ℕ) (x : Coding) (it : Interval) → Ready from to p x it → (from ≤ digits (ended x) p) × (digits (ended x) p < to)
+ended_within from to p x it h =
+    let e : digits (ended x) p ≡ digits (shift_out (shift_out (set_bits x))).bytes p = ended_digits from to p x it p h in
+    let s : Spelt from p (shift_out (shift_out (set_bits x))).bytes it.low it.size it.scale = spelt from to p x it h in
+    rw e (spelt_above from p _ it.low it.size it.scale s, spelt_below from to p _ it.low it.size it.scale s h.stands.held.later h.stands.held.below)
