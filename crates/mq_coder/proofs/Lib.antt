@@ -6,6 +6,7 @@ mod Estimates
 mod Stands
 mod Ending
 mod Final
+mod Inversion
 mod Look
 mod Out
 mod Vectors

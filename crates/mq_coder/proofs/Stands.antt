@@ -200,11 +200,11 @@ code_chosen x cx bit =
       ]
     ]
 
-part_lower : (it : Interval) (cx : ℕ) → part it cx true ≡ record { low = it.low; size = estimate it.contexts cx; scale = it.scale; contexts = part_contexts it.contexts it.size cx true }
+pub part_lower : (it : Interval) (cx : ℕ) → part it cx true ≡ record { low = it.low; size = estimate it.contexts cx; scale = it.scale; contexts = part_contexts it.contexts it.size cx true }
 unfolding part
 part_lower it cx = refl
 
-part_upper : (it : Interval) (cx : ℕ) → part it cx false ≡ record { low = it.low + estimate it.contexts cx; size = it.size - estimate it.contexts cx; scale = it.scale; contexts = part_contexts it.contexts it.size cx false }
+pub part_upper : (it : Interval) (cx : ℕ) → part it cx false ≡ record { low = it.low + estimate it.contexts cx; size = it.size - estimate it.contexts cx; scale = it.scale; contexts = part_contexts it.contexts it.size cx false }
 unfolding part
 part_upper it cx = refl
 

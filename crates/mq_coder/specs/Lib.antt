@@ -1,3 +1,4 @@
 pub mod Code
 pub mod Decisions
+pub mod Laws
 pub mod States
