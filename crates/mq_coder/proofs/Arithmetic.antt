@@ -1,8 +1,8 @@
 -- Powers of two and quotients, over free numbers.
-use Rattle.std.proofs.Common.{◌≡◌, ℕ, ◌+◌, ◌-◌, ◌*◌, ◌/◌, ◌%◌, ◌^◌, ◌<◌, ◌≤◌, refl, sym, ap, ◌∙◌, arith, suc, inl, inr}
+use Rattle.std.proofs.Common.{◌≡◌, ℕ, ◌+◌, ◌-◌, ◌*◌, ◌/◌, ◌^◌, ◌<◌, ◌≤◌, ap, ◌∙◌, arith, suc, inl, inr}
 use Rattle.std.proofs.lemmas.Bool.{cases_lt}
-use Rattle.std.proofs.lemmas.Nat.{pow_pos, pow-add, le-div, div_below, div-mul-add, mod_below, div-add-mod'}
-use Rattle.std.proofs.Math.Nat.{mul-le-mul_left, mul-le-mul_right, le_of_mul-le-mul_right, div-mul-le_self, lt-div-mul-add, mul-div-mul_left}
+use Rattle.std.proofs.lemmas.Nat.{pow-add, le-div, div_below}
+use Rattle.std.proofs.Math.Nat.{mul-le-mul_left, mul-le-mul_right, div-mul-le_self}
 
 pub split_pow : (d k w : ℕ) → d + k ≡ w → 2 ^ w ≡ 2 ^ d * 2 ^ k
 split_pow d k w e = rw (← e) (pow-add 2 d k)
@@ -10,8 +10,8 @@ split_pow d k w e = rw (← e) (pow-add 2 d k)
 pub less_by_factor : (k a b : ℕ) → a * k < b * k → a < b
 less_by_factor k a b h =
     elim (cases_lt a b) [
-      inl l ↦ l
-    | inr g ↦ let m : b * k ≤ a * k = mul-le-mul_right k g in absurd (omega arith)
+      | inl l ↦ l
+      | inr g ↦ let m : b * k ≤ a * k = mul-le-mul_right k g in absurd (omega arith)
     ]
 
 -- a number that lies in one quotient's reach

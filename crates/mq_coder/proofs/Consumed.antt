@@ -1,11 +1,10 @@
 -- What the bytes of a string give: their digits as a number, how many, and strings that aren't cut.
-use Rattle.std.proofs.Common.{◌≡◌, ℕ, zero, suc, ◌+◌, ◌-◌, ◌*◌, ◌/◌, ◌^◌, ◌<◌, ◌≤◌, Bool, true, false, cond, not, ◌&&◌, ltb, leb, eqb, ◌⊎◌, List, [], ◌∷◌, ◌++◌, refl, sym, ap, ◌∙◌, arith, inl, inr, subst}
-use Rattle.std.proofs.lemmas.Bool.{cases_lt, cases_Bool, cond-true, cond-false, false≢true}
-use Rattle.std.proofs.lemmas.Nat.{pow_pos, pow-add, le-div, div_below}
-use Rattle.std.proofs.Math.Nat.{mul-le-mul_left, mul-le-mul_right, div-mul-le_self}
-use Rattle.mq_coder.specs.Decisions.{look, digits, ones, width}
-use Rattle.mq_coder.proofs.Arithmetic.{split_pow, quotient, ones_div}
-use Rattle.mq_coder.proofs.Look.{cut, join, look_cut, look_short_by, look_long_by, look_end, look_cases}
+use Rattle.std.proofs.Common.{◌≡◌, ℕ, zero, suc, ◌+◌, ◌-◌, ◌*◌, ◌/◌, ◌^◌, ◌<◌, ◌≤◌, Bool, true, false, eqb, List, [], ◌∷◌, ◌++◌, refl, sym, ap, ◌∙◌, arith}
+use Rattle.std.proofs.lemmas.Bool.{false≢true}
+use Rattle.std.proofs.lemmas.Nat.{pow_pos, le-div}
+use Rattle.std.proofs.Math.Nat.{div-mul-le_self}
+use Rattle.mq_coder.specs.Decisions.{look, ones, width}
+use Rattle.mq_coder.proofs.Look.{cut, join, look_short_by, look_long_by, look_end, look_cases}
 
 -- the digits of acc and of the bytes, as a number
 abbrev pub taken : ℕ → Bool → List ℕ → ℕ
@@ -79,9 +78,9 @@ pub look_front : (acc : ℕ) (ff : Bool) (bs r : List ℕ) (d : ℕ) → Clean f
 look_front acc ff [] r d clean one le = absurd (omega arith)
 look_front acc ff (b ∷ s) r d clean one le =
     look_cases (λ y. look acc ff (b ∷ (s ++ r)) d ≡ y) acc ff b s d
-      (λ h. absurd (false≢true (sym clean.1 ∙ h)))
-      (λ k h e. look_short_by acc ff b (s ++ r) d k h e)
-      (λ k h p e. look_long_by acc ff b (s ++ r) d k h p e ∙ look_front (join acc ff b) (eqb b 255) s r k clean.2 p (omega arith))
+    (λ h. absurd (false≢true (sym clean.1 ∙ h)))
+    (λ k h e. look_short_by acc ff b (s ++ r) d k h e)
+    (λ k h p e. look_long_by acc ff b (s ++ r) d k h p e ∙ look_front (join acc ff b) (eqb b 255) s r k clean.2 p (omega arith))
 
 -- digits of which the last byte gives some
 pub look_last : (acc : ℕ) (ff : Bool) (bs : List ℕ) (x d k : ℕ) → Clean ff (bs ++ x ∷ []) → bits ff bs < d → d + k ≡ bits ff (bs ++ x ∷ []) → look acc ff (bs ++ x ∷ []) d ≡ taken acc ff (bs ++ x ∷ []) / 2 ^ k
@@ -105,10 +104,10 @@ look_raised acc ff [] x d clean clean' le =
     let k : ℕ = width ff - d in
     let s : d + k ≡ width ff = omega arith in
     rw (look_short_by acc ff x [] d k clean.1 s, look_short_by acc ff (x + 1) [] d k clean'.1 s)
-      (raised_short (join acc ff x) (join acc ff (x + 1)) (2 ^ k) (pow_pos k) (omega arith))
+    (raised_short (join acc ff x) (join acc ff (x + 1)) (2 ^ k) (pow_pos k) (omega arith))
 look_raised acc ff (b ∷ r) x d clean clean' le =
     look_cases (λ y. y ≤ look acc ff (b ∷ (r ++ (x + 1) ∷ [])) d) acc ff b (r ++ x ∷ []) d
-      (λ h. absurd (false≢true (sym clean.1 ∙ h)))
-      (λ k h e. rw (look_short_by acc ff b (r ++ (x + 1) ∷ []) d k h e) (omega arith))
-      (λ k h p e. rw (look_long_by acc ff b (r ++ (x + 1) ∷ []) d k h p e)
-        (look_raised (join acc ff b) (eqb b 255) r x k clean.2 clean'.2 (omega arith)))
+    (λ h. absurd (false≢true (sym clean.1 ∙ h)))
+    (λ k h e. rw (look_short_by acc ff b (r ++ (x + 1) ∷ []) d k h e) (omega arith))
+    (λ k h p e. rw (look_long_by acc ff b (r ++ (x + 1) ∷ []) d k h p e)
+    (look_raised (join acc ff b) (eqb b 255) r x k clean.2 clean'.2 (omega arith)))

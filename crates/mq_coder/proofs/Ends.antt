@@ -1,10 +1,9 @@
 -- A last byte FF gives the ones that follow a string anyway.
-use Rattle.std.proofs.Common.{◌≡◌, ℕ, zero, suc, ◌+◌, ◌-◌, ◌*◌, ◌/◌, ◌^◌, ◌<◌, ◌≤◌, Bool, true, false, cond, not, ◌&&◌, ltb, leb, eqb, ◌⊎◌, List, [], ◌∷◌, ◌++◌, length, take, refl, sym, ap, ◌∙◌, arith, inl, inr, subst}
-use Rattle.std.proofs.lemmas.Bool.{cases_lt, cases_Bool, cond-true, cond-false, false≢true}
-use Rattle.std.proofs.lemmas.Nat.{pow_pos, pow-add, le-div, div_below}
-use Rattle.mq_coder.specs.Decisions.{look, digits, ones, width}
-use Rattle.mq_coder.proofs.Arithmetic.{split_pow, quotient, ones_div}
-use Rattle.mq_coder.proofs.Look.{cut, join, look_cut, look_short_by, look_long_by, look_end, look_cases}
+use Rattle.std.proofs.Common.{◌≡◌, ℕ, ◌+◌, ◌-◌, ◌*◌, ◌/◌, ◌^◌, ◌<◌, Bool, true, false, eqb, List, [], ◌∷◌, ◌++◌, refl, sym, ap, ◌∙◌, arith}
+use Rattle.std.proofs.lemmas.Nat.{pow_pos}
+use Rattle.mq_coder.specs.Decisions.{look, ones}
+use Rattle.mq_coder.proofs.Arithmetic.{split_pow, ones_div}
+use Rattle.mq_coder.proofs.Look.{join, look_cut, look_short_by, look_long_by, look_end, look_cases}
 
 ones_short : (acc d k : ℕ) → d + k ≡ 8 → (acc * 2 ^ 8 + 255) / 2 ^ k ≡ ones acc d
 ones_short acc d k e =
@@ -24,14 +23,14 @@ alone : (acc : ℕ) (ff : Bool) (d : ℕ) → look acc ff (255 ∷ []) d ≡ one
 alone acc true d = look_cut acc true 255 [] d refl
 alone acc false d =
     look_cases (λ y. y ≡ ones acc d) acc false 255 [] d
-      (λ h. refl)
-      (λ k h e. ones_short acc d k e)
-      (λ k h p e. look_end (join acc false 255) true k ∙ ones_long acc d k e)
+    (λ h. refl)
+    (λ k h e. ones_short acc d k e)
+    (λ k h p e. look_end (join acc false 255) true k ∙ ones_long acc d k e)
 
 pub look_ff : (acc : ℕ) (ff : Bool) (bs : List ℕ) (d : ℕ) → look acc ff (bs ++ 255 ∷ []) d ≡ look acc ff bs d
 look_ff acc ff [] d = alone acc ff d ∙ sym (look_end acc ff d)
 look_ff acc ff (b ∷ r) d =
     look_cases (λ y. look acc ff (b ∷ (r ++ 255 ∷ [])) d ≡ y) acc ff b r d
-      (λ h. look_cut acc ff b (r ++ 255 ∷ []) d h)
-      (λ k h e. look_short_by acc ff b (r ++ 255 ∷ []) d k h e)
-      (λ k h p e. look_long_by acc ff b (r ++ 255 ∷ []) d k h p e ∙ look_ff (join acc ff b) (eqb b 255) r k)
+    (λ h. look_cut acc ff b (r ++ 255 ∷ []) d h)
+    (λ k h e. look_short_by acc ff b (r ++ 255 ∷ []) d k h e)
+    (λ k h p e. look_long_by acc ff b (r ++ 255 ∷ []) d k h p e ∙ look_ff (join acc ff b) (eqb b 255) r k)

@@ -1,11 +1,9 @@
 -- The bounds of Qe, and the two parts of an interval.
-use Rattle.std.proofs.Common.{◌≡◌, ℕ, zero, suc, ◌+◌, ◌-◌, ◌*◌, ◌<◌, ◌≤◌, Bool, true, false, not, ◌&&◌, ltb, leb, eqb, List, [], ◌∷◌, length, get_or, set, All, refl, sym, ap, ◌∙◌, arith, inl, inr, lit≤}
-use Rattle.std.proofs.lemmas.Bool.{cases_lt, and_parts, leb-true, cond-true, cond-false}
-use Rattle.std.proofs.lemmas.List.{get_or_past}
-use Rattle.std.proofs.lemmas.List.Elements.{All-get_or}
+use Rattle.std.proofs.Common.{◌≡◌, ℕ, zero, suc, ◌-◌, ◌≤◌, Bool, true, false, ◌&&◌, ltb, leb, List, [], ◌∷◌, get_or, refl}
+use Rattle.std.proofs.lemmas.Bool.{and_parts, leb-true}
 use Rattle.mq_coder.specs.declared.states.StateRow.{StateRow}
-use Rattle.mq_coder.specs.States.{state_table, row, context_at, same, after_symbol, line}
-use Rattle.mq_coder.specs.Decisions.{estimate, part_symbol, part_contexts}
+use Rattle.mq_coder.specs.States.{state_table, row, context_at, same, line}
+use Rattle.mq_coder.specs.Decisions.{estimate, part_symbol}
 
 abbrev pub Bounded : StateRow → Type 0
 Bounded r = (1 ≤ r.qe) × (r.qe ≤ 22017)

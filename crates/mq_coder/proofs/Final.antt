@@ -1,25 +1,24 @@
 -- The ended code lies in every interval that its symbols left.
-use Rattle.std.proofs.Common.{◌≡◌, ℕ, zero, suc, ◌+◌, ◌-◌, ◌*◌, ◌/◌, ◌%◌, ◌^◌, ◌<◌, ◌≤◌, Bool, true, false, cond, not, ◌&&◌, ltb, leb, eqb, ◌⊎◌, List, [], ◌∷◌, ◌++◌, length, get_or, set, take, refl, sym, ap, ◌∙◌, arith, inl, inr, subst}
-use Rattle.std.proofs.lemmas.Bool.{cases_lt, cases_eq, cases_Bool, cond-true, cond-false, false≢true, eq-eqb, ne_eqb, lt-ltb, le-ltb}
-use Rattle.std.proofs.lemmas.List.{length-append}
-use Rattle.std.proofs.lemmas.Nat.{pow_pos, pow-add, pow_below, div-add-mod', mod_below}
-use Rattle.std.proofs.Math.Nat.{mul-le-mul_left, mul-le-mul_right, le_of_mul-le-mul_right, le_antisymm}
+use Rattle.std.proofs.Common.{◌≡◌, ℕ, ◌+◌, ◌-◌, ◌*◌, ◌^◌, ◌<◌, ◌≤◌, Bool, false, ◌⊎◌, List, [], ◌∷◌, ◌++◌, take, refl, sym, ap, ◌∙◌, arith, inl, inr, subst}
+use Rattle.std.proofs.lemmas.Bool.{cases_lt, cases_eq, cond-true, cond-false, eq-eqb, ne_eqb}
+use Rattle.std.proofs.lemmas.Nat.{pow_pos, pow-add}
+use Rattle.std.proofs.Math.Nat.{le_of_mul-le-mul_right, le_antisymm}
 use Rattle.std.proofs.Math.Seq.{take-append_seam}
-use Rattle.mq_coder.specs.Decisions.{look, digits, ones, width, Interval}
-use Rattle.mq_coder.specs.Code.{Coding, last_byte, byte_out, set_bits, shift_out, drop_ff, ended}
+use Rattle.mq_coder.specs.Decisions.{look, digits, Interval}
+use Rattle.mq_coder.specs.Code.{Coding, byte_out, set_bits, shift_out, drop_ff, ended}
 use Rattle.mq_coder.proofs.Arithmetic.{split_pow, last_units, above_ones, below_top}
-use Rattle.mq_coder.proofs.Look.{cut, join, look_more}
-use Rattle.mq_coder.proofs.Consumed.{taken, bits, ends_ff, Clean, width_low, look_full}
-use Rattle.mq_coder.proofs.Out.{Shape, Shape.none, Shape.some, Out, out, last_place, last_snoc}
-use Rattle.mq_coder.proofs.Held.{Held, digits_look, less_bound, narrowed, moved, out_held, out_small}
-use Rattle.mq_coder.proofs.Stands.{Stands, Ready}
+use Rattle.mq_coder.proofs.Look.{look_more}
+use Rattle.mq_coder.proofs.Consumed.{taken, bits, Clean, look_full}
+use Rattle.mq_coder.proofs.Out.{Shape, Shape.none, Shape.some, last_place, last_snoc}
+use Rattle.mq_coder.proofs.Held.{Held, digits_look, narrowed}
+use Rattle.mq_coder.proofs.Stands.{Ready}
 use Rattle.mq_coder.proofs.Ends.{look_ff}
-use Rattle.mq_coder.proofs.Ending.{shape_clean, Filled, bits_set, set_bytes, set_ct, Shifted, shift_out_held}
+use Rattle.mq_coder.proofs.Flush.{shape_clean, Filled, bits_set, set_bytes, set_ct, Shifted, shift_out_held}
 
 same_factor : (a b k : ℕ) → 0 < k → a * k ≡ b * k → a ≡ b
 same_factor a b k pos e =
     le_antisymm (le_of_mul-le-mul_right (let h : a * k ≤ b * k = omega arith in h) pos)
-      (le_of_mul-le-mul_right (let h : b * k ≤ a * k = omega arith in h) pos)
+    (le_of_mul-le-mul_right (let h : b * k ≤ a * k = omega arith in h) pos)
 
 -- the number of the ending is, but for its ones, a whole number of units of 2 ^ 15
 whole_units : (low t c d filled units ct m : ℕ) → low * 2 ^ ct ≡ t * 2 ^ 27 + c * 2 ^ ct → c + d ≡ filled → filled + 1 ≡ units * 2 ^ 15 → m + ct ≡ 12 → low + d + 1 ≡ (t * 2 ^ m + units) * 2 ^ 15
@@ -45,7 +44,7 @@ number f a b c n rest u g k e small sum units h =
     let s3 : 2 ^ (a + b + c) ≡ 2 ^ a * 2 ^ b * 2 ^ c = s1 ∙ ap (λ x. x * 2 ^ c) s2 in
     let s4 : f * 2 ^ (a + b + c) ≡ f * (2 ^ a * 2 ^ b * 2 ^ c) = ap (λ x. f * x) s3 in
     last_units f (2 ^ (a + b + c)) n rest (u * 2 ^ k) (2 ^ g) (pow_pos (a + b + c)) (pow_pos g) (omega arith) small
-      (sym (split_pow (a + b + c) g 27 sum)) (units_of f u g k units h)
+    (sym (split_pow (a + b + c) g 27 sum)) (units_of f u g k units h)
 
 -- CT is 12 only before the first doubling, and then the ending is FF 7F
 first_ct : (a c ct : ℕ) (bytes : List ℕ) (contexts : List (ℕ × Bool)) → bytes ≡ [] → c ≡ 0 → ct ≡ 12 → a ≡ 2 ^ 15 → (shift_out (shift_out (set_bits (record { a = a; c = c; ct = ct; bytes = bytes; contexts = contexts })))).ct ≡ 7
@@ -56,8 +55,8 @@ few_turns : (x : Coding) (it : Interval) (from to p : ℕ) → Ready from to p x
 few_turns x it from to p h =
     let few : x.ct ≤ 12 = h.stands.held.few in
     elim (cases_lt x.ct 12) [
-      inl lt ↦ inl (omega arith)
-    | inr ge ↦ inr (first x it h.wide h.stands.a_is (omega arith) h.stands.held.shape)
+      | inl lt ↦ inl (omega arith)
+      | inr ge ↦ inr (first x it h.wide h.stands.a_is (omega arith) h.stands.held.shape)
     ]
   where
     first : (x : Coding) (it : Interval) → 2 ^ 15 ≤ it.size → x.a ≡ it.size → x.ct ≡ 12 → Shape x.bytes ((x.c + it.size) * 2 ^ x.ct) x.ct → (shift_out (shift_out (set_bits x))).ct ≡ 7
@@ -97,13 +96,16 @@ spell from to p bs raw held_c rest low size s d filled units a b c h is fits who
     let last_bits : s + a + b + c ≡ bits false raw + 12 = last.bits_are in
     let above : from * 2 ^ s ≤ low * 2 ^ p = h.above in
     let units' : low + d + 1 ≡ (taken 0 false bs * 2 ^ (12 - a) + units) * 2 ^ 15 =
-      whole_units low (taken 0 false bs) held_c d filled units a (12 - a) low_is is whole (omega arith) in
+    whole_units low (taken 0 false bs) held_c d filled units a (12 - a) low_is is whole (omega arith) in
     record {
-      number = low + d; ones = 27 - (a + b + c);
+      number = low + d;
+      ones = 27 - (a + b + c);
       bits_are = omega arith;
       units = number (low + d) a b c (taken 0 false raw) (rest * 2 ^ c) (taken 0 false bs * 2 ^ (12 - a) + units) (27 - (a + b + c)) (a + b + c - 12) last_is small (omega arith) units' (omega arith);
       clean = shape_clean raw _ _ last.shape;
-      above = omega arith; inside = omega arith; reached = last.reached
+      above = omega arith;
+      inside = omega arith;
+      reached = last.reached;
     }
 
 turns_fit : (a b c : ℕ) → a ≤ 12 → b ≤ 8 → c ≤ 8 → a ≤ 11 ⊎ (c ≡ 7) → a + b + c ≤ 27
@@ -121,10 +123,11 @@ shifts from to p x it h =
     let a_is : x.a ≡ it.size = h.stands.a_is in
     let f : Filled x.c x.a (set_bits x).c = bits_set x (let w : 2 ^ 15 ≤ x.a = rw a_is h.wide in w) in
     let one : Shifted from to p (set_bits x) (it.low + f.d) it.scale (shift_out (set_bits x)) =
-      shift_out_held from to p (set_bits x) (it.low + f.d) it.scale (set_held from to p x it h f) in
+    shift_out_held from to p (set_bits x) (it.low + f.d) it.scale (set_held from to p x it h f) in
     record {
-      f = f; one = one;
-      two = shift_out_held from to p (shift_out (set_bits x)) ((it.low + f.d) * 2 ^ (set_bits x).ct) (it.scale + (set_bits x).ct) one.held
+      f = f;
+      one = one;
+      two = shift_out_held from to p (shift_out (set_bits x)) ((it.low + f.d) * 2 ^ (set_bits x).ct) (it.scale + (set_bits x).ct) one.held;
     }
 
 spelt : (from to p : ℕ) (x : Coding) (it : Interval) → Ready from to p x it → Spelt from p (shift_out (shift_out (set_bits x))).bytes it.low it.size it.scale
@@ -134,37 +137,37 @@ spelt from to p x it h =
     let t : Shifts from to p x it.low it.scale = shifts from to p x it h in
     let fits : t.f.d + 1 ≤ x.a = t.f.fits in
     let last : Held from to p (shift_out (shift_out (set_bits x))).bytes (shift_out (shift_out (set_bits x))).c (shift_out (shift_out (set_bits x))).ct ((it.low + t.f.d) * 2 ^ x.ct * 2 ^ (shift_out (set_bits x)).ct) 1 (it.scale + x.ct + (shift_out (set_bits x)).ct) =
-      subst (λ v. Held from to p (shift_out (shift_out (set_bits x))).bytes (shift_out (shift_out (set_bits x))).c (shift_out (shift_out (set_bits x))).ct ((it.low + t.f.d) * 2 ^ v * 2 ^ (shift_out (set_bits x)).ct) 1 (it.scale + v + (shift_out (set_bits x)).ct)) (set_ct x) t.two.held in
+    subst (λ v. Held from to p (shift_out (shift_out (set_bits x))).bytes (shift_out (shift_out (set_bits x))).c (shift_out (shift_out (set_bits x))).ct ((it.low + t.f.d) * 2 ^ v * 2 ^ (shift_out (set_bits x)).ct) 1 (it.scale + v + (shift_out (set_bits x)).ct)) (set_ct x) t.two.held in
     let seven : 7 ≤ (shift_out (set_bits x)).ct = t.one.seven in
     let seven' : 7 ≤ (shift_out (shift_out (set_bits x))).ct = t.two.seven in
     spell from to p x.bytes (shift_out (shift_out (set_bits x))).bytes x.c (shift_out (shift_out (set_bits x))).c it.low it.size it.scale t.f.d (set_bits x).c t.f.units x.ct (shift_out (set_bits x)).ct (shift_out (shift_out (set_bits x))).ct
-      h.stands.held t.f.is (omega arith) t.f.ones last t.two.small
-      (turns_fit x.ct (shift_out (set_bits x)).ct (shift_out (shift_out (set_bits x))).ct few t.one.eight t.two.eight (few_turns x it from to p h))
-      (omega arith)
+    h.stands.held t.f.is (omega arith) t.f.ones last t.two.small
+    (turns_fit x.ct (shift_out (set_bits x)).ct (shift_out (shift_out (set_bits x))).ct few t.one.eight t.two.eight (few_turns x it from to p h))
+    (omega arith)
 
 -- at a bound's scale the digits are those of the number's front, in which the bound lies
 spelt_above : (from p : ℕ) (bytes : List ℕ) (low size s : ℕ) → Spelt from p bytes low size s → from ≤ digits bytes p
 spelt_above from p bytes low size s h =
     elim (cases_lt (bits false bytes) (p + 15)) [
-      inr enough ↦ h.reached enough
-    | inl few ↦
-        let k : ℕ = p + 15 - bits false bytes in
-        let bits_are : bits false bytes + h.ones ≡ s + 15 = h.bits_are in
-        let e : digits bytes p ≡ (taken 0 false bytes + 1) * 2 ^ (p + 15 - bits false bytes) - 1 =
+      | inr enough ↦ h.reached enough
+      | inl few ↦
+          let k : ℕ = p + 15 - bits false bytes in
+          let bits_are : bits false bytes + h.ones ≡ s + 15 = h.bits_are in
+          let e : digits bytes p ≡ (taken 0 false bytes + 1) * 2 ^ (p + 15 - bits false bytes) - 1 =
           digits_look bytes p ∙ look_full 0 false bytes (p + 15) (p + 15 - bits false bytes) h.clean (omega arith) (omega arith) in
-        let s1 : 2 ^ (p + 15 - bits false bytes + s) ≡ 2 ^ (p + 15 - bits false bytes) * 2 ^ s = pow-add 2 (p + 15 - bits false bytes) s in
-        let s2 : 2 ^ (p + h.ones) ≡ 2 ^ p * 2 ^ h.ones = pow-add 2 p h.ones in
-        let s3 : p + 15 - bits false bytes + s ≡ p + h.ones = omega arith in
-        let s4 : 2 ^ (p + 15 - bits false bytes) * 2 ^ s ≡ 2 ^ p * 2 ^ h.ones = sym s1 ∙ ap (λ x. 2 ^ x) s3 ∙ s2 in
-        let m : from + 1 ≤ (taken 0 false bytes + 1) * 2 ^ (p + 15 - bits false bytes) =
+          let s1 : 2 ^ (p + 15 - bits false bytes + s) ≡ 2 ^ (p + 15 - bits false bytes) * 2 ^ s = pow-add 2 (p + 15 - bits false bytes) s in
+          let s2 : 2 ^ (p + h.ones) ≡ 2 ^ p * 2 ^ h.ones = pow-add 2 p h.ones in
+          let s3 : p + 15 - bits false bytes + s ≡ p + h.ones = omega arith in
+          let s4 : 2 ^ (p + 15 - bits false bytes) * 2 ^ s ≡ 2 ^ p * 2 ^ h.ones = sym s1 ∙ ap (λ x. 2 ^ x) s3 ∙ s2 in
+          let m : from + 1 ≤ (taken 0 false bytes + 1) * 2 ^ (p + 15 - bits false bytes) =
           above_ones from (2 ^ s) h.number (2 ^ p) (taken 0 false bytes) (2 ^ h.ones) (2 ^ (p + 15 - bits false bytes)) (pow_pos p) h.above h.units s4 in
-        rw e (omega arith)
+          rw e (omega arith)
     ]
 
 spelt_number : (from p : ℕ) (bytes : List ℕ) (low size s : ℕ) → (h : Spelt from p bytes low size s) → digits bytes s ≡ h.number
 spelt_number from p bytes low size s h =
     let e : digits bytes s ≡ (taken 0 false bytes + 1) * 2 ^ h.ones - 1 =
-      digits_look bytes s ∙ look_full 0 false bytes (s + 15) h.ones h.clean (omega arith) (sym h.bits_are) in
+    digits_look bytes s ∙ look_full 0 false bytes (s + 15) h.ones h.clean (omega arith) (sym h.bits_are) in
     let u : h.number + 1 ≡ (taken 0 false bytes + 1) * 2 ^ h.ones = h.units in
     e ∙ omega arith
 
@@ -192,8 +195,8 @@ drop_ff_not base x h = cond-false _ _ _ (ne_eqb _ _ (λ e. h (sym (last_snoc bas
 drop_ff_look : (base : List ℕ) (x d : ℕ) → look 0 false (drop_ff (base ++ x ∷ [])) d ≡ look 0 false (base ++ x ∷ []) d
 drop_ff_look base x d =
     elim (cases_eq x 255) [
-      inl e ↦ rw (e, drop_ff_is base) (sym (look_ff 0 false base d))
-    | inr ne ↦ ap (λ v. look 0 false v d) (drop_ff_not base x ne)
+      | inl e ↦ rw (e, drop_ff_is base) (sym (look_ff 0 false base d))
+      | inr ne ↦ ap (λ v. look 0 false v d) (drop_ff_not base x ne)
     ]
 
 ended_is : (x : Coding) → ended x ≡ drop_ff (shift_out (shift_out (set_bits x))).bytes

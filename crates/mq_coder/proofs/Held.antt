@@ -1,13 +1,12 @@
 -- What an encoder keeps true: its bytes and registers hold the low end of the interval, and once
 -- the bytes give the digits asked for at a scale, they have reached an earlier low end there.
-use Rattle.std.proofs.Common.{◌≡◌, ℕ, zero, suc, ◌+◌, ◌-◌, ◌*◌, ◌/◌, ◌%◌, ◌^◌, ◌<◌, ◌≤◌, Bool, true, false, cond, not, ◌&&◌, ltb, leb, eqb, ◌⊎◌, List, [], ◌∷◌, ◌++◌, length, get_or, set, refl, sym, ap, ◌∙◌, arith, inl, inr, subst}
-use Rattle.std.proofs.lemmas.Bool.{cases_lt, cases_eq, cases_Bool, cond-true, cond-false, false≢true, eq-eqb, ne_eqb, lt-ltb, le-ltb}
-use Rattle.std.proofs.lemmas.Nat.{pow_pos, pow-add, le-div, div_below, div-add-mod', mod_below}
-use Rattle.std.proofs.Math.Nat.{mul-le-mul_left, mul-le-mul_right}
-use Rattle.mq_coder.specs.Decisions.{look, digits, ones, width}
-use Rattle.mq_coder.specs.Code.{Coding, last_byte, raise_last, put_7, put_8, byte_out}
+use Rattle.std.proofs.Common.{◌≡◌, ℕ, suc, ◌+◌, ◌-◌, ◌*◌, ◌/◌, ◌^◌, ◌<◌, ◌≤◌, Bool, true, false, List, [], ◌∷◌, ◌++◌, refl, sym, ap, ◌∙◌, arith, inl, inr}
+use Rattle.std.proofs.lemmas.Bool.{cases_lt}
+use Rattle.std.proofs.lemmas.Nat.{pow_pos, pow-add}
+use Rattle.std.proofs.Math.Nat.{mul-le-mul_right}
+use Rattle.mq_coder.specs.Decisions.{look, digits, width}
+use Rattle.mq_coder.specs.Code.{Coding}
 use Rattle.mq_coder.proofs.Arithmetic.{split_pow, reach}
-use Rattle.mq_coder.proofs.Look.{cut, join}
 use Rattle.mq_coder.proofs.Consumed.{taken, bits, ends_ff, Clean, taken_snoc, bits_snoc, look_front, look_last}
 use Rattle.mq_coder.proofs.Out.{Shape, Shape.none, Shape.some, Out}
 
@@ -44,10 +43,16 @@ narrowed from to p bs c ct low size s d size' h one fits =
     let m1 : (d + size') * 2 ^ ct ≤ size * 2 ^ ct = mul-le-mul_right (2 ^ ct) fits in
     let m2 : (d + size') * 2 ^ p ≤ size * 2 ^ p = mul-le-mul_right (2 ^ p) fits in
     record {
-      pos = one; top = omega arith; few = h.few; bits_are = h.bits_are;
+      pos = one;
+      top = omega arith;
+      few = h.few;
+      bits_are = h.bits_are;
       low_is = omega arith;
       shape = less_bound bs ((c + size) * 2 ^ ct) _ ct ct h.shape (omega arith) (omega arith);
-      later = h.later; above = omega arith; below = omega arith; reached = h.reached
+      later = h.later;
+      above = omega arith;
+      below = omega arith;
+      reached = h.reached;
     }
 
 moved_low : (low q k t ct c : ℕ) → q ≡ k * t → low * q ≡ ct * 2 ^ 27 + c * q → low * k * t ≡ ct * 2 ^ 27 + c * k * t
@@ -79,13 +84,16 @@ moved from to p bs c ct low size s k t h e lt =
     let bits_are : s + ct ≡ bits false bs + 12 = h.bits_are in
     let m1 : 1 * 2 ^ k ≤ size * 2 ^ k = mul-le-mul_right (2 ^ k) pos in
     record {
-      pos = omega arith; top = lt; few = omega arith; bits_are = omega arith;
+      pos = omega arith;
+      top = lt;
+      few = omega arith;
+      bits_are = omega arith;
       low_is = moved_low low (2 ^ ct) (2 ^ k) (2 ^ t) (taken 0 false bs) c q h.low_is;
       shape = less_bound bs ((c + size) * 2 ^ ct) _ ct t h.shape (moved_bound c size (2 ^ ct) (2 ^ k) (2 ^ t) q) (omega arith);
       later = omega arith;
       above = moved_above from low (2 ^ s) (2 ^ k) (2 ^ (s + k)) (2 ^ p) r h.above;
       below = moved_below low size (2 ^ s) (2 ^ k) (2 ^ (s + k)) (2 ^ p) to r h.below;
-      reached = h.reached
+      reached = h.reached;
     }
   where
     moved_below : (low size s k r p to : ℕ) → r ≡ s * k → (low + size) * p ≤ to * s → (low * k + size * k) * p ≤ to * r
@@ -132,31 +140,38 @@ out_held from to p x y low size s h o =
     let width_is : width (ends_ff false o.base) ≡ y.ct = o.width_is in
     let unit : 2 ^ y.ct * 2 ^ o.k ≡ 2 ^ 27 = sym (split_pow y.ct o.k 27 o.unit) in
     let new_bits : bits false y.bytes ≡ bits false x.bytes + y.ct =
-      rw o.bytes_are (bits_snoc false o.base o.byte ∙ ap (λ v. v + width (ends_ff false o.base)) o.bits_are ∙ ap (λ v. bits false x.bytes + v) o.width_is) in
+    rw o.bytes_are (bits_snoc false o.base o.byte ∙ ap (λ v. v + width (ends_ff false o.base)) o.bits_are ∙ ap (λ v. bits false x.bytes + v) o.width_is) in
     let new_taken : taken 0 false y.bytes ≡ taken 0 false o.base * 2 ^ y.ct + o.byte =
-      rw o.bytes_are (taken_snoc 0 false o.base o.byte ∙ ap (λ v. taken 0 false o.base * 2 ^ v + o.byte) o.width_is) in
+    rw o.bytes_are (taken_snoc 0 false o.base o.byte ∙ ap (λ v. taken 0 false o.base * 2 ^ v + o.byte) o.width_is) in
     let low_is : low * 2 ^ y.ct ≡ taken 0 false y.bytes * 2 ^ 27 + y.c * 2 ^ y.ct =
-      out_low low (taken 0 false x.bytes) x.c o.carry o.byte (2 ^ o.k) (2 ^ y.ct) y.c (taken 0 false o.base) (taken 0 false y.bytes) 0 h.low_is o.split unit o.taken_is new_taken in
+    out_low low (taken 0 false x.bytes) x.c o.carry o.byte (2 ^ o.k) (2 ^ y.ct) y.c (taken 0 false o.base) (taken 0 false y.bytes) 0 h.low_is o.split unit o.taken_is new_taken in
     let narrow : y.ct ≤ 8 = width_top (ends_ff false o.base) y.ct o.width_is in
     let bits_are : s + 0 ≡ bits false x.bytes + 12 = h.bits_are in
     record {
-      pos = h.pos; top = h.top; few = omega arith; bits_are = omega arith;
-      low_is = low_is; shape = o.shape; later = h.later; above = h.above; below = h.below;
+      pos = h.pos;
+      top = h.top;
+      few = omega arith;
+      bits_are = omega arith;
+      low_is = low_is;
+      shape = o.shape;
+      later = h.later;
+      above = h.above;
+      below = h.below;
       reached = λ enough. elim (cases_lt (bits false x.bytes) (p + 15)) [
-        inl new ↦
-          let r : ℕ = bits false y.bytes - (p + 15) in
-          let base_bits : bits false o.base < p + 15 = rw o.bits_are new in
-          let value : digits y.bytes p ≡ taken 0 false y.bytes / 2 ^ r =
+        | inl new ↦
+            let r : ℕ = bits false y.bytes - (p + 15) in
+            let base_bits : bits false o.base < p + 15 = rw o.bits_are new in
+            let value : digits y.bytes p ≡ taken 0 false y.bytes / 2 ^ r =
             new_digits y.bytes o.base o.byte p r o.bytes_are o.clean_all base_bits (omega arith) in
-          rw value (out_reached from p s y.ct low r y.bytes y.c h.above low_is (out_small x y size o) (omega arith))
-      | inr old ↦
-          let before : from ≤ look 0 false x.bytes (p + 15) = rw (← digits_look x.bytes p) (h.reached old) in
-          let raised : look 0 false x.bytes (p + 15) ≤ look 0 false o.base (p + 15) = o.grows (p + 15) old in
-          let in_base : p + 15 ≤ bits false o.base = rw o.bits_are old in
-          let value : digits y.bytes p ≡ look 0 false o.base (p + 15) =
+            rw value (out_reached from p s y.ct low r y.bytes y.c h.above low_is (out_small x y size o) (omega arith))
+        | inr old ↦
+            let before : from ≤ look 0 false x.bytes (p + 15) = rw (← digits_look x.bytes p) (h.reached old) in
+            let raised : look 0 false x.bytes (p + 15) ≤ look 0 false o.base (p + 15) = o.grows (p + 15) old in
+            let in_base : p + 15 ≤ bits false o.base = rw o.bits_are old in
+            let value : digits y.bytes p ≡ look 0 false o.base (p + 15) =
             digits_look y.bytes p ∙ rw o.bytes_are (look_front 0 false o.base (o.byte ∷ []) (p + 15) o.clean (omega arith) in_base) in
-          rw value (omega arith)
-      ]
+            rw value (omega arith)
+      ];
     }
   where
     width_top : (ff : Bool) (n : ℕ) → width ff ≡ n → n ≤ 8
@@ -169,7 +184,14 @@ fresh from to p bs c ct low size s h =
     let few : ct ≤ 12 = h.few in
     let bits_are : s + ct ≡ bits false bs + 12 = h.bits_are in
     record {
-      pos = h.pos; top = h.top; few = few; bits_are = bits_are; low_is = h.low_is; shape = h.shape;
-      later = omega arith; above = omega arith; below = omega arith;
-      reached = λ enough. absurd (omega arith)
+      pos = h.pos;
+      top = h.top;
+      few = few;
+      bits_are = bits_are;
+      low_is = h.low_is;
+      shape = h.shape;
+      later = omega arith;
+      above = omega arith;
+      below = omega arith;
+      reached = λ enough. absurd (omega arith);
     }

@@ -4,9 +4,9 @@ mod Ends
 mod Held
 mod Estimates
 mod Stands
-mod Ending
+mod Flush
 mod Final
-mod Inversion
+mod Inverts
 mod Look
 mod Out
 mod Vectors

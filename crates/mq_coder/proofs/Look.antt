@@ -1,10 +1,9 @@
 -- The digits of a byte string.
-use Rattle.std.proofs.Common.{◌≡◌, ℕ, zero, suc, ◌+◌, ◌-◌, ◌*◌, ◌/◌, ◌^◌, ◌<◌, ◌≤◌, Bool, true, false, cond, not, ◌&&◌, ltb, leb, eqb, ◌⊎◌, List, [], ◌∷◌, ◌++◌, refl, sym, ap, ◌∙◌, arith, inl, inr, subst}
+use Rattle.std.proofs.Common.{◌≡◌, ℕ, ◌+◌, ◌-◌, ◌*◌, ◌/◌, ◌^◌, ◌<◌, ◌≤◌, Bool, true, false, ◌&&◌, ltb, eqb, List, [], ◌∷◌, refl, sym, ap, ◌∙◌, arith, inl, inr, subst}
 use Rattle.std.proofs.lemmas.Bool.{cases_lt, cases_Bool, cond-true, cond-false, le-leb, lt-leb, false≢true}
-use Rattle.std.proofs.lemmas.Nat.{pow_pos, pow-add, le-div, div_below}
-use Rattle.std.proofs.Math.Nat.{mul-le-mul_left, mul-le-mul_right, div-mul-le_self}
-use Rattle.mq_coder.specs.Decisions.{look, digits, ones, width}
-use Rattle.mq_coder.proofs.Arithmetic.{split_pow, quotient, ones_div, shift_down, shift_up, less_by_factor}
+use Rattle.std.proofs.lemmas.Nat.{pow_pos, pow-add, le-div}
+use Rattle.mq_coder.specs.Decisions.{look, ones, width}
+use Rattle.mq_coder.proofs.Arithmetic.{split_pow, shift_down, shift_up}
 
 -- whether a string is cut before the byte b
 abbrev pub cut : Bool → ℕ → Bool
@@ -51,15 +50,15 @@ pub look_cases : (P : ℕ → Type 0) (acc : ℕ) (ff : Bool) (b : ℕ) (r : Lis
     P (look acc ff (b ∷ r) d)
 look_cases P acc ff b r d ended short long =
     elim (cases_Bool (cut ff b)) [
-      inl h ↦ subst P (sym (look_cut acc ff b r d h)) (ended h)
-    | inr h ↦ elim (cases_lt (width ff) d) [
-        inl lt ↦
-          let e : d ≡ width ff + (d - width ff) = omega arith in
-          let one : 1 ≤ d - width ff = omega arith in
-          subst P (sym (look_long_by acc ff b r d (d - width ff) h one e)) (long (d - width ff) h one e)
-      | inr le ↦
-          let e : d + (width ff - d) ≡ width ff = omega arith in
-          subst P (sym (look_short_by acc ff b r d (width ff - d) h e)) (short (width ff - d) h e)
+      | inl h ↦ subst P (sym (look_cut acc ff b r d h)) (ended h)
+      | inr h ↦ elim (cases_lt (width ff) d) [
+        | inl lt ↦
+            let e : d ≡ width ff + (d - width ff) = omega arith in
+            let one : 1 ≤ d - width ff = omega arith in
+            subst P (sym (look_long_by acc ff b r d (d - width ff) h one e)) (long (d - width ff) h one e)
+        | inr le ↦
+            let e : d + (width ff - d) ≡ width ff = omega arith in
+            subst P (sym (look_short_by acc ff b r d (width ff - d) h e)) (short (width ff - d) h e)
       ]
     ]
 
@@ -83,9 +82,9 @@ pub look_above : (acc : ℕ) (ff : Bool) (r : List ℕ) (d : ℕ) → acc * 2 ^ 
 look_above acc ff [] d = rw look_end (ones_above acc d)
 look_above acc ff (b ∷ r) d =
     look_cases (λ y. acc * 2 ^ d ≤ y) acc ff b r d
-      (λ h. ones_above acc d)
-      (λ k h e. grow_short acc b d k (width ff) e)
-      (λ k h one e. grow_long acc b d k (width ff) _ e (look_above (join acc ff b) (eqb b 255) r k))
+    (λ h. ones_above acc d)
+    (λ k h e. grow_short acc b d k (width ff) e)
+    (λ k h one e. grow_long acc b d k (width ff) _ e (look_above (join acc ff b) (eqb b 255) r k))
 
 more_ones : (acc d j : ℕ) → ones acc d * 2 ^ j ≤ ones acc (d + j)
 more_ones acc d j =
@@ -114,12 +113,12 @@ pub look_more : (acc : ℕ) (ff : Bool) (r : List ℕ) (d j : ℕ) → look acc 
 look_more acc ff [] d j = rw (look_end acc ff d, look_end acc ff (d + j)) (more_ones acc d j)
 look_more acc ff (b ∷ r) d j =
     look_cases (λ y. y * 2 ^ j ≤ look acc ff (b ∷ r) (d + j)) acc ff b r d
-      (λ h. rw (look_cut acc ff b r (d + j) h) (more_ones acc d j))
-      (λ k h e. look_cases (λ y. join acc ff b / 2 ^ k * 2 ^ j ≤ y) acc ff b r (d + j)
-        (λ h'. absurd (false≢true (sym h ∙ h')))
-        (λ k' h' e'. more_short (join acc ff b) j k' k (omega arith))
-        (λ k' h' one e'. more_over (join acc ff b) j k' k _ (omega arith) (look_above (join acc ff b) (eqb b 255) r k')))
-      (λ k h one e.
-        let e' : d + j ≡ width ff + (k + j) = omega arith in
-        let one' : 1 ≤ k + j = omega arith in
-        rw (look_long_by acc ff b r (d + j) (k + j) h one' e') (look_more (join acc ff b) (eqb b 255) r k j))
+    (λ h. rw (look_cut acc ff b r (d + j) h) (more_ones acc d j))
+    (λ k h e. look_cases (λ y. join acc ff b / 2 ^ k * 2 ^ j ≤ y) acc ff b r (d + j)
+    (λ h'. absurd (false≢true (sym h ∙ h')))
+    (λ k' h' e'. more_short (join acc ff b) j k' k (omega arith))
+    (λ k' h' one e'. more_over (join acc ff b) j k' k _ (omega arith) (look_above (join acc ff b) (eqb b 255) r k')))
+    (λ k h one e.
+    let e' : d + j ≡ width ff + (k + j) = omega arith in
+    let one' : 1 ≤ k + j = omega arith in
+    rw (look_long_by acc ff b r (d + j) (k + j) h one' e') (look_more (join acc ff b) (eqb b 255) r k j))

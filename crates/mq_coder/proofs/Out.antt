@@ -1,12 +1,12 @@
 -- What BYTEOUT does, in one form for its four cases.
-use Rattle.std.proofs.Common.{◌≡◌, ℕ, zero, suc, ◌+◌, ◌-◌, ◌*◌, ◌/◌, ◌%◌, ◌^◌, ◌<◌, ◌≤◌, Bool, true, false, cond, not, ◌&&◌, ltb, leb, eqb, ◌⊎◌, List, [], ◌∷◌, ◌++◌, length, get_or, set, refl, sym, ap, ◌∙◌, arith, inl, inr, subst}
+use Rattle.std.proofs.Common.{◌≡◌, ℕ, ◌+◌, ◌-◌, ◌*◌, ◌/◌, ◌%◌, ◌^◌, ◌<◌, ◌≤◌, Bool, true, false, eqb, List, [], ◌∷◌, ◌++◌, length, get_or, set, refl, sym, ap, ◌∙◌, arith, inl, inr}
 use Rattle.std.proofs.lemmas.Bool.{cases_lt, cases_eq, cases_Bool, cond-true, cond-false, false≢true, eq-eqb, ne_eqb, lt-ltb, le-ltb}
 use Rattle.std.proofs.lemmas.List.{length-append}
 use Rattle.std.proofs.Math.Seq.{get_or-append_seam, set-append_seam}
-use Rattle.std.proofs.lemmas.Nat.{pow_pos, pow-add, le-div, div_below, div-add-mod', mod_below}
-use Rattle.mq_coder.specs.Decisions.{look, digits, ones, width}
+use Rattle.std.proofs.lemmas.Nat.{pow_pos, div_below, div-add-mod', mod_below}
+use Rattle.mq_coder.specs.Decisions.{look, width}
 use Rattle.mq_coder.specs.Code.{Coding, last_byte, raise_last, put_7, put_8, byte_out}
-use Rattle.mq_coder.proofs.Look.{cut, join}
+use Rattle.mq_coder.proofs.Look.{cut}
 use Rattle.mq_coder.proofs.Consumed.{taken, bits, ends_ff, Clean, taken_snoc, bits_snoc, ends_snoc, Clean-snoc, Clean-front, Clean-last, look_raised}
 
 pub last_place : (pre : List ℕ) (x : ℕ) → length (pre ++ x ∷ []) - 1 ≡ length pre
@@ -42,7 +42,7 @@ byte_carry x h le e = cond-false _ _ _ (ne_eqb _ _ h) ∙ cond-false _ _ _ (le-l
 pub data Shape (bs : List ℕ) (bound ct : ℕ) : Type 0 where
   none : bs ≡ [] → bound ≤ 2 ^ 27 → Shape bs bound ct
   some : (pre : List ℕ) (x : ℕ) → bs ≡ pre ++ x ∷ [] → Clean false (pre ++ x ∷ []) → ct ≤ 8 →
-    bound ≤ 144 * 2 ^ 20 → (ends_ff false pre ≡ true → x * 2 ^ 27 + bound ≤ 144 * 2 ^ 27) → Shape bs bound ct
+      bound ≤ 144 * 2 ^ 20 → (ends_ff false pre ≡ true → x * 2 ^ 27 + bound ≤ 144 * 2 ^ 27) → Shape bs bound ct
 
 -- y is x after BYTEOUT, at an interval of the given size
 pub record Out (x : Coding) (size : ℕ) (y : Coding) : Type 0 where
@@ -96,12 +96,24 @@ out_8 x size base carry c h ends lt top =
     let all : Clean false (base ++ (c / 2 ^ 19) ∷ []) = Clean-snoc false base (c / 2 ^ 19) h.clean fits uncut in
     let is : x.c ≡ carry * 2 ^ 27 + c = h.is_c in
     record {
-      base = base; carry = carry; byte = c / 2 ^ 19; k = 19;
-      bytes_are = refl; width_is = rw ends refl; unit = refl;
-      split = omega arith; small = mod_below c (2 ^ 19) (pow_pos 19);
-      taken_is = h.taken_is; bits_are = h.bits_are; length_is = h.length_is; clean = h.clean; clean_all = all; grows = h.grows;
+      base = base;
+      carry = carry;
+      byte = c / 2 ^ 19;
+      k = 19;
+      bytes_are = refl;
+      width_is = rw ends refl;
+      unit = refl;
+      split = omega arith;
+      small = mod_below c (2 ^ 19) (pow_pos 19);
+      taken_is = h.taken_is;
+      bits_are = h.bits_are;
+      length_is = h.length_is;
+      clean = h.clean;
+      clean_all = all;
+      grows = h.grows;
       shape = some base (c / 2 ^ 19) refl all (omega arith) (bound_8 c size top) (λ e. absurd (false≢true (sym ends ∙ e)));
-      same_a = refl; same_contexts = refl
+      same_a = refl;
+      same_contexts = refl;
     }
 
 out_7 : (x : Coding) (size : ℕ) (base : List ℕ) (carry c : ℕ) → Base x base carry c → ends_ff false base ≡ true → c + size ≤ 144 * 2 ^ 20 → 1 ≤ size → size < 2 ^ 16 → Out x size (put_7 x base c)
@@ -113,26 +125,43 @@ out_7 x size base carry c h ends le pos top =
     let all : Clean false (base ++ (c / 2 ^ 20) ∷ []) = Clean-snoc false base (c / 2 ^ 20) h.clean (omega arith) uncut in
     let is : x.c ≡ carry * 2 ^ 27 + c = h.is_c in
     record {
-      base = base; carry = carry; byte = c / 2 ^ 20; k = 20;
-      bytes_are = refl; width_is = rw ends refl; unit = refl;
-      split = omega arith; small = mod_below c (2 ^ 20) (pow_pos 20);
-      taken_is = h.taken_is; bits_are = h.bits_are; length_is = h.length_is; clean = h.clean; clean_all = all; grows = h.grows;
+      base = base;
+      carry = carry;
+      byte = c / 2 ^ 20;
+      k = 20;
+      bytes_are = refl;
+      width_is = rw ends refl;
+      unit = refl;
+      split = omega arith;
+      small = mod_below c (2 ^ 20) (pow_pos 20);
+      taken_is = h.taken_is;
+      bits_are = h.bits_are;
+      length_is = h.length_is;
+      clean = h.clean;
+      clean_all = all;
+      grows = h.grows;
       shape = some base (c / 2 ^ 20) refl all (omega arith) (bound_7 c size top) (λ e. behind_ff c size le);
-      same_a = refl; same_contexts = refl
+      same_a = refl;
+      same_contexts = refl;
     }
 
 base_same : (x : Coding) → Clean false x.bytes → Base x x.bytes 0 x.c
 base_same x clean = record {
-  is_c = omega arith; taken_is = omega arith; bits_are = refl; length_is = refl; clean = clean; grows = λ d le. omega arith
+  is_c = omega arith;
+  taken_is = omega arith;
+  bits_are = refl;
+  length_is = refl;
+  clean = clean;
+  grows = λ d le. omega arith;
 }
 
 raised_clean : (pre : List ℕ) (l : ℕ) → Clean false (pre ++ l ∷ []) → l + 1 ≤ 255 → (ends_ff false pre ≡ true → l + 1 ≤ 143) → Clean false (pre ++ (l + 1) ∷ [])
 raised_clean pre l clean top behind =
     let uncut : cut (ends_ff false pre) (l + 1) ≡ false =
-      elim (cases_Bool (ends_ff false pre)) [
-        inl h ↦ cut_low (ends_ff false pre) (l + 1) (behind h)
+    elim (cases_Bool (ends_ff false pre)) [
+      | inl h ↦ cut_low (ends_ff false pre) (l + 1) (behind h)
       | inr h ↦ rw h refl
-      ] in
+    ] in
     Clean-snoc false pre (l + 1) (Clean-front false pre l clean) top uncut
 
 base_raised : (x : Coding) (pre : List ℕ) (l : ℕ) → x.bytes ≡ pre ++ l ∷ [] → Clean false (pre ++ l ∷ []) → Clean false (pre ++ (l + 1) ∷ []) → 2 ^ 27 ≤ x.c → Base x (pre ++ (l + 1) ∷ []) 1 (x.c - 2 ^ 27)
@@ -145,7 +174,7 @@ base_raised x pre l e clean clean' le =
       bits_are = rw e (bits_snoc false pre (l + 1) ∙ sym (bits_snoc false pre l));
       length_is = rw e (length-append pre ((l + 1) ∷ []) ∙ sym (length-append pre (l ∷ [])));
       clean = clean';
-      grows = λ d h. rw e (look_raised 0 false pre l d clean clean' (let i : d ≤ bits false (pre ++ l ∷ []) = rw e at h in i))
+      grows = λ d h. rw e (look_raised 0 false pre l d clean clean' (let i : d ≤ bits false (pre ++ l ∷ []) = rw e at h in i));
     }
 
 out_none : (x : Coding) (size : ℕ) → x.bytes ≡ [] → x.c + size ≤ 2 ^ 27 → 1 ≤ size → size < 2 ^ 16 → Out x size (byte_out x)
@@ -164,31 +193,31 @@ out_some x size pre l e clean le behind pos top =
     let raise : raise_last x.bytes ≡ pre ++ (l + 1) ∷ [] = rw e (raise_snoc pre l) in
     let top_l : l ≤ 255 = (Clean-last false pre l clean).0 in
     elim (cases_eq l 255) [
-      inl is ↦
-        rw (byte_ff x (last ∙ is))
+      | inl is ↦
+          rw (byte_ff x (last ∙ is))
           (out_7 x size x.bytes 0 x.c (base_same x here) (ends ∙ eq-eqb l 255 is) le pos top)
-    | inr isnt ↦
-        let not_ff : last_byte x.bytes ≡ 255 → ⊥ = λ h. isnt (sym last ∙ h) in
-        elim (cases_lt x.c (2 ^ 27)) [
-          inl lt ↦
-            rw (byte_plain x not_ff lt)
-              (out_8 x size x.bytes 0 x.c (base_same x here) (ends ∙ ne_eqb l 255 isnt) lt top)
-        | inr ge ↦
-            let clean' : Clean false (pre ++ (l + 1) ∷ []) =
-              raised_clean pre l clean (omega arith) (λ h. let b : l * 2 ^ 27 + (x.c + size) ≤ 144 * 2 ^ 27 = behind h in omega arith) in
-            let base : Base x (pre ++ (l + 1) ∷ []) 1 (x.c - 2 ^ 27) = base_raised x pre l e clean clean' ge in
-            let ends' : ends_ff false (pre ++ (l + 1) ∷ []) ≡ eqb (l + 1) 255 = ends_snoc false pre (l + 1) in
-            elim (cases_eq (l + 1) 255) [
-              inl is' ↦
-                let is'' : last_byte x.bytes + 1 ≡ 255 = rw last is' in
-                rw (byte_carry_ff x not_ff ge is'', raise)
-                  (out_7 x size (pre ++ (l + 1) ∷ []) 1 (x.c - 2 ^ 27) base (ends' ∙ eq-eqb (l + 1) 255 is') (omega arith) pos top)
-            | inr isnt' ↦
-                let isnt'' : last_byte x.bytes + 1 ≡ 255 → ⊥ = λ h. isnt' (ap (λ v. v + 1) (sym last) ∙ h) in
-                rw (byte_carry x not_ff ge isnt'', raise)
-                  (out_8 x size (pre ++ (l + 1) ∷ []) 1 (x.c - 2 ^ 27) base (ends' ∙ ne_eqb (l + 1) 255 isnt') (omega arith) top)
-            ]
-        ]
+      | inr isnt ↦
+          let not_ff : last_byte x.bytes ≡ 255 → ⊥ = λ h. isnt (sym last ∙ h) in
+          elim (cases_lt x.c (2 ^ 27)) [
+            | inl lt ↦
+                rw (byte_plain x not_ff lt)
+                (out_8 x size x.bytes 0 x.c (base_same x here) (ends ∙ ne_eqb l 255 isnt) lt top)
+            | inr ge ↦
+                let clean' : Clean false (pre ++ (l + 1) ∷ []) =
+                raised_clean pre l clean (omega arith) (λ h. let b : l * 2 ^ 27 + (x.c + size) ≤ 144 * 2 ^ 27 = behind h in omega arith) in
+                let base : Base x (pre ++ (l + 1) ∷ []) 1 (x.c - 2 ^ 27) = base_raised x pre l e clean clean' ge in
+                let ends' : ends_ff false (pre ++ (l + 1) ∷ []) ≡ eqb (l + 1) 255 = ends_snoc false pre (l + 1) in
+                elim (cases_eq (l + 1) 255) [
+                  | inl is' ↦
+                      let is'' : last_byte x.bytes + 1 ≡ 255 = rw last is' in
+                      rw (byte_carry_ff x not_ff ge is'', raise)
+                      (out_7 x size (pre ++ (l + 1) ∷ []) 1 (x.c - 2 ^ 27) base (ends' ∙ eq-eqb (l + 1) 255 is') (omega arith) pos top)
+                  | inr isnt' ↦
+                      let isnt'' : last_byte x.bytes + 1 ≡ 255 → ⊥ = λ h. isnt' (ap (λ v. v + 1) (sym last) ∙ h) in
+                      rw (byte_carry x not_ff ge isnt'', raise)
+                      (out_8 x size (pre ++ (l + 1) ∷ []) 1 (x.c - 2 ^ 27) base (ends' ∙ ne_eqb (l + 1) 255 isnt') (omega arith) top)
+                ]
+          ]
     ]
 
 -- BYTEOUT, at an interval of which C is the low end

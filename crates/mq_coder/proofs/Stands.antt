@@ -1,12 +1,12 @@
 -- An encoder between two symbols, and the interval that these symbols leave.
-use Rattle.std.proofs.Common.{◌≡◌, ℕ, zero, suc, ◌+◌, ◌-◌, ◌*◌, ◌/◌, ◌%◌, ◌^◌, ◌<◌, ◌≤◌, Bool, true, false, cond, not, ◌&&◌, ltb, leb, eqb, ◌⊎◌, List, [], ◌∷◌, ◌++◌, length, get_or, set, refl, sym, ap, ◌∙◌, arith, inl, inr, subst}
-use Rattle.std.proofs.lemmas.Bool.{cases_lt, cases_eq, cases_Bool, cond-true, cond-false, false≢true, eq-eqb, ne_eqb, lt-ltb, le-ltb, le-leb, lt-leb}
+use Rattle.std.proofs.Common.{◌≡◌, ℕ, zero, suc, ◌+◌, ◌-◌, ◌*◌, ◌^◌, ◌<◌, ◌≤◌, Bool, true, false, cond, ltb, List, set, refl, sym, ap, ◌∙◌, arith, inl, inr}
+use Rattle.std.proofs.lemmas.Bool.{cases_lt, cases_eq, cases_Bool, cond-true, cond-false, eq-eqb, ne_eqb, lt-ltb, le-ltb, le-leb, lt-leb}
 use Rattle.std.proofs.Math.Nat.{pow-succ'}
-use Rattle.mq_coder.specs.States.{context_at, same, after_symbol, start_contexts}
-use Rattle.mq_coder.specs.Decisions.{look, digits, width, Interval, start_interval, estimate, part_symbol, part_contexts, part, twice, doubled}
+use Rattle.mq_coder.specs.States.{context_at, same, after_symbol}
+use Rattle.mq_coder.specs.Decisions.{width, Interval, start_interval, estimate, part_symbol, part_contexts, part, twice, doubled}
 use Rattle.mq_coder.specs.Code.{Coding, start_coding, byte_out, shift, renormalise, take_lower, take_upper, learn, code_more, code_less, code_symbol}
 use Rattle.mq_coder.proofs.Consumed.{ends_ff, width_low}
-use Rattle.mq_coder.proofs.Out.{Shape, Shape.none, Shape.some, Out, out}
+use Rattle.mq_coder.proofs.Out.{Shape.none, Out, out}
 use Rattle.mq_coder.proofs.Held.{Held, less_bound, narrowed, moved, out_held, fresh}
 use Rattle.mq_coder.proofs.Estimates.{estimate_bounded, lower_of, symbol_of_part}
 
@@ -27,8 +27,8 @@ turned_held : (from to p : ℕ) (x : Coding) (it : Interval) → Stands from to 
 turned_held from to p x it h lt =
     let live : 1 ≤ x.ct = h.live in
     same_held from to p x.bytes (x.c * 2 ^ 1) (2 * x.c) (x.ct - 1) (it.low * 2 ^ 1) (2 * it.low) (it.size * 2 ^ 1) (2 * it.size) (it.scale + 1)
-      (omega arith) (omega arith) (omega arith)
-      (moved from to p x.bytes x.c x.ct it.low it.size it.scale 1 (x.ct - 1) h.held (omega arith) (omega arith))
+    (omega arith) (omega arith) (omega arith)
+    (moved from to p x.bytes x.c x.ct it.low it.size it.scale 1 (x.ct - 1) h.held (omega arith) (omega arith))
 
 shift_last : (x : Coding) → x.ct ≡ 1 → shift x ≡ byte_out (turned x)
 unfolding shift
@@ -44,26 +44,29 @@ shift_stands from to p x it h lt =
     let a_is : x.a ≡ it.size = h.a_is in
     let live : 1 ≤ x.ct = h.live in
     elim (cases_eq x.ct 1) [
-      inl last ↦
-        let none : x.ct - 1 ≡ 0 = omega arith in
-        let held' : Held from to p x.bytes (2 * x.c) 0 (2 * it.low) (2 * it.size) (it.scale + 1) = rw (← none) held in
-        let o : Out (turned x) (2 * it.size) (byte_out (turned x)) =
+      | inl last ↦
+          let none : x.ct - 1 ≡ 0 = omega arith in
+          let held' : Held from to p x.bytes (2 * x.c) 0 (2 * it.low) (2 * it.size) (it.scale + 1) = rw (← none) held in
+          let o : Out (turned x) (2 * it.size) (byte_out (turned x)) =
           out (turned x) (2 * it.size)
-            (less_bound x.bytes ((2 * x.c + 2 * it.size) * 2 ^ 0) (2 * x.c + 2 * it.size) 0 0 held'.shape (omega arith) (omega arith))
-            held'.pos held'.top in
-        let held'' : Held from to p (turned x).bytes (turned x).c 0 (2 * it.low) (2 * it.size) (it.scale + 1) = held' in
-        let wide : 7 ≤ width (ends_ff false o.base) = width_low (ends_ff false o.base) in
-        let is : width (ends_ff false o.base) ≡ (byte_out (turned x)).ct = o.width_is in
-        rw (shift_last x last) record {
-          held = out_held from to p (turned x) (byte_out (turned x)) (2 * it.low) (2 * it.size) (it.scale + 1) held'' o;
-          live = omega arith;
-          a_is = o.same_a ∙ ap (λ v. 2 * v) a_is;
-          contexts_are = o.same_contexts ∙ h.contexts_are
-        }
-    | inr more ↦
-        rw (shift_more x more) record {
-          held = held; live = omega arith; a_is = ap (λ v. 2 * v) a_is; contexts_are = h.contexts_are
-        }
+          (less_bound x.bytes ((2 * x.c + 2 * it.size) * 2 ^ 0) (2 * x.c + 2 * it.size) 0 0 held'.shape (omega arith) (omega arith))
+          held'.pos held'.top in
+          let held'' : Held from to p (turned x).bytes (turned x).c 0 (2 * it.low) (2 * it.size) (it.scale + 1) = held' in
+          let wide : 7 ≤ width (ends_ff false o.base) = width_low (ends_ff false o.base) in
+          let is : width (ends_ff false o.base) ≡ (byte_out (turned x)).ct = o.width_is in
+          rw (shift_last x last) record {
+            held = out_held from to p (turned x) (byte_out (turned x)) (2 * it.low) (2 * it.size) (it.scale + 1) held'' o;
+            live = omega arith;
+            a_is = o.same_a ∙ ap (λ v. 2 * v) a_is;
+            contexts_are = o.same_contexts ∙ h.contexts_are;
+          }
+      | inr more ↦
+          rw (shift_more x more) record {
+            held = held;
+            live = omega arith;
+            a_is = ap (λ v. 2 * v) a_is;
+            contexts_are = h.contexts_are;
+          }
     ]
 
 renormalise_turn : (n : ℕ) (x : Coding) → x.a < 2 ^ 15 → renormalise (suc n) x ≡ renormalise n (shift x)
@@ -96,11 +99,11 @@ renormalise_ready from to p zero x it h wide =
 renormalise_ready from to p (suc n) x it h wide =
     let a_is : x.a ≡ it.size = h.a_is in
     elim (cases_lt it.size (2 ^ 15)) [
-      inl lt ↦
-        rw (renormalise_turn n x (rw a_is lt), doubled_turn n it lt)
+      | inl lt ↦
+          rw (renormalise_turn n x (rw a_is lt), doubled_turn n it lt)
           (renormalise_ready from to p n (shift x) (twice it) (shift_stands from to p x it h lt) (further it.size n wide))
-    | inr ge ↦
-        rw (renormalise_done (suc n) x (rw a_is ge), doubled_done (suc n) it ge) record { stands = h; wide = ge }
+      | inr ge ↦
+          rw (renormalise_done (suc n) x (rw a_is ge), doubled_done (suc n) it ge) record { stands = h; wide = ge }
     ]
   where
     further : (size n : ℕ) → 2 ^ 15 ≤ size * 2 ^ suc n → 2 ^ 15 ≤ 2 * size * 2 ^ n
@@ -109,10 +112,10 @@ renormalise_ready from to p (suc n) x it h wide =
 -- the part of x that a symbol takes, before the turns
 abbrev pub chosen : Coding → ℕ → Bool → Coding
 chosen x cx lower = record x {
-    a = cond lower (estimate x.contexts cx) (x.a - estimate x.contexts cx);
-    c = cond lower x.c (x.c + estimate x.contexts cx);
-    contexts = part_contexts x.contexts x.a cx lower
-  }
+  a = cond lower (estimate x.contexts cx) (x.a - estimate x.contexts cx);
+  c = cond lower x.c (x.c + estimate x.contexts cx);
+  contexts = part_contexts x.contexts x.a cx lower;
+}
 
 kept_contexts : (contexts : List (ℕ × Bool)) (size cx : ℕ) → 2 ^ 15 ≤ size - estimate contexts cx → part_contexts contexts size cx false ≡ contexts
 unfolding part_contexts
@@ -177,26 +180,26 @@ code_chosen x cx bit =
     let qe : ℕ = estimate x.contexts cx in
     let few : (1 ≤ estimate x.contexts cx) × (estimate x.contexts cx ≤ 22017) = estimate_bounded x.contexts cx in
     elim (cases_Bool (same bit (context_at x.contexts cx).1)) [
-      inl more ↦ code_of_more x cx bit more ∙ elim (cases_lt (x.a - estimate x.contexts cx) (estimate x.contexts cx)) [
-        inl swap ↦
-          let l : lower_of x.contexts x.a cx bit ≡ true = part_of x cx bit true true more (lt-ltb _ _ swap) in
-          more_lower x cx bit (omega arith) swap ∙ ap (λ v. renormalise 15 v) (chosen_lower x cx bit l) ∙ ap (λ v. renormalise 15 (chosen x cx v)) (sym l)
-      | inr not_swap ↦
-          let l : lower_of x.contexts x.a cx bit ≡ false = part_of x cx bit true false more (le-ltb _ _ not_swap) in
-          elim (cases_lt (x.a - estimate x.contexts cx) (2 ^ 15)) [
-            inl short ↦
-              more_upper x cx bit short not_swap ∙ ap (λ v. renormalise 15 v) (chosen_upper x cx bit l short) ∙ ap (λ v. renormalise 15 (chosen x cx v)) (sym l)
-          | inr long ↦
-              more_kept x cx bit long ∙ sym (renormalise_done 15 (take_upper x (estimate x.contexts cx)) long) ∙ ap (λ v. renormalise 15 v) (chosen_kept x cx long) ∙ ap (λ v. renormalise 15 (chosen x cx v)) (sym l)
-          ]
+      | inl more ↦ code_of_more x cx bit more ∙ elim (cases_lt (x.a - estimate x.contexts cx) (estimate x.contexts cx)) [
+        | inl swap ↦
+            let l : lower_of x.contexts x.a cx bit ≡ true = part_of x cx bit true true more (lt-ltb _ _ swap) in
+            more_lower x cx bit (omega arith) swap ∙ ap (λ v. renormalise 15 v) (chosen_lower x cx bit l) ∙ ap (λ v. renormalise 15 (chosen x cx v)) (sym l)
+        | inr not_swap ↦
+            let l : lower_of x.contexts x.a cx bit ≡ false = part_of x cx bit true false more (le-ltb _ _ not_swap) in
+            elim (cases_lt (x.a - estimate x.contexts cx) (2 ^ 15)) [
+              | inl short ↦
+                  more_upper x cx bit short not_swap ∙ ap (λ v. renormalise 15 v) (chosen_upper x cx bit l short) ∙ ap (λ v. renormalise 15 (chosen x cx v)) (sym l)
+              | inr long ↦
+                  more_kept x cx bit long ∙ sym (renormalise_done 15 (take_upper x (estimate x.contexts cx)) long) ∙ ap (λ v. renormalise 15 v) (chosen_kept x cx long) ∙ ap (λ v. renormalise 15 (chosen x cx v)) (sym l)
+            ]
       ]
-    | inr less ↦ code_of_less x cx bit less ∙ elim (cases_lt (x.a - estimate x.contexts cx) (estimate x.contexts cx)) [
-        inl swap ↦
-          let l : lower_of x.contexts x.a cx bit ≡ false = part_of x cx bit false true less (lt-ltb _ _ swap) in
-          less_upper x cx bit swap ∙ ap (λ v. renormalise 15 v) (chosen_upper x cx bit l (omega arith)) ∙ ap (λ v. renormalise 15 (chosen x cx v)) (sym l)
-      | inr not_swap ↦
-          let l : lower_of x.contexts x.a cx bit ≡ true = part_of x cx bit false false less (le-ltb _ _ not_swap) in
-          less_lower x cx bit not_swap ∙ ap (λ v. renormalise 15 v) (chosen_lower x cx bit l) ∙ ap (λ v. renormalise 15 (chosen x cx v)) (sym l)
+      | inr less ↦ code_of_less x cx bit less ∙ elim (cases_lt (x.a - estimate x.contexts cx) (estimate x.contexts cx)) [
+        | inl swap ↦
+            let l : lower_of x.contexts x.a cx bit ≡ false = part_of x cx bit false true less (lt-ltb _ _ swap) in
+            less_upper x cx bit swap ∙ ap (λ v. renormalise 15 v) (chosen_upper x cx bit l (omega arith)) ∙ ap (λ v. renormalise 15 (chosen x cx v)) (sym l)
+        | inr not_swap ↦
+            let l : lower_of x.contexts x.a cx bit ≡ true = part_of x cx bit false false less (le-ltb _ _ not_swap) in
+            less_lower x cx bit not_swap ∙ ap (λ v. renormalise 15 v) (chosen_lower x cx bit l) ∙ ap (λ v. renormalise 15 (chosen x cx v)) (sym l)
       ]
     ]
 
@@ -217,10 +220,10 @@ chosen_stands from to p x it cx true h =
     let few : (1 ≤ estimate it.contexts cx) × (estimate it.contexts cx ≤ 22017) = estimate_bounded it.contexts cx in
     rw (part_lower it cx) record {
       held = same_held from to p x.bytes (x.c + 0) x.c x.ct (it.low + 0) it.low (estimate it.contexts cx) (estimate it.contexts cx) it.scale (omega arith) (omega arith) refl
-        (narrowed from to p x.bytes x.c x.ct it.low it.size it.scale 0 (estimate it.contexts cx) h.stands.held few.0 (omega arith));
+          (narrowed from to p x.bytes x.c x.ct it.low it.size it.scale 0 (estimate it.contexts cx) h.stands.held few.0 (omega arith));
       live = h.stands.live;
       a_is = ap (λ v. estimate v cx) e2;
-      contexts_are = ap (λ v. part_contexts v x.a cx true) e2 ∙ ap (λ v. part_contexts it.contexts v cx true) e1
+      contexts_are = ap (λ v. part_contexts v x.a cx true) e2 ∙ ap (λ v. part_contexts it.contexts v cx true) e1;
     }
 chosen_stands from to p x it cx false h =
     let e1 : x.a ≡ it.size = h.stands.a_is in
@@ -230,10 +233,10 @@ chosen_stands from to p x it cx false h =
     let few : (1 ≤ estimate it.contexts cx) × (estimate it.contexts cx ≤ 22017) = estimate_bounded it.contexts cx in
     rw (part_upper it cx) record {
       held = same_held from to p x.bytes (x.c + estimate it.contexts cx) (x.c + estimate x.contexts cx) x.ct (it.low + estimate it.contexts cx) (it.low + estimate it.contexts cx) (it.size - estimate it.contexts cx) (it.size - estimate it.contexts cx) it.scale (omega arith) refl refl
-        (narrowed from to p x.bytes x.c x.ct it.low it.size it.scale (estimate it.contexts cx) (it.size - estimate it.contexts cx) h.stands.held (omega arith) (omega arith));
+          (narrowed from to p x.bytes x.c x.ct it.low it.size it.scale (estimate it.contexts cx) (it.size - estimate it.contexts cx) h.stands.held (omega arith) (omega arith));
       live = h.stands.live;
       a_is = omega arith;
-      contexts_are = ap (λ v. part_contexts v x.a cx false) e2 ∙ ap (λ v. part_contexts it.contexts v cx false) e1
+      contexts_are = ap (λ v. part_contexts v x.a cx false) e2 ∙ ap (λ v. part_contexts it.contexts v cx false) e1;
     }
 
 part_pos : (from to p : ℕ) (x : Coding) (it : Interval) → Stands from to p x it → 2 ^ 15 ≤ it.size * 2 ^ 15
@@ -256,19 +259,30 @@ coded_fresh from to p x it cx bit h =
     renewed : (from to p : ℕ) (x : Coding) (it : Interval) → Stands from to p x it → Stands it.low (it.low + it.size) it.scale x it
     renewed from to p x it h = record {
       held = fresh from to p x.bytes x.c x.ct it.low it.size it.scale h.held;
-      live = h.live; a_is = h.a_is; contexts_are = h.contexts_are
+      live = h.live;
+      a_is = h.a_is;
+      contexts_are = h.contexts_are;
     }
 
 pub start_ready : Ready 0 (2 ^ 15) 0 start_coding start_interval
 unfolding start_coding start_interval
 start_ready = record {
-    stands = record {
-      held = record {
-        pos = omega arith; top = omega arith; few = omega arith; bits_are = omega arith; low_is = omega arith;
-        shape = none refl (omega arith); later = omega arith; above = omega arith; below = omega arith;
-        reached = λ h. absurd (omega arith)
-      };
-      live = omega arith; a_is = refl; contexts_are = refl
+  stands = record {
+    held = record {
+      pos = omega arith;
+      top = omega arith;
+      few = omega arith;
+      bits_are = omega arith;
+      low_is = omega arith;
+      shape = none refl (omega arith);
+      later = omega arith;
+      above = omega arith;
+      below = omega arith;
+      reached = λ h. absurd (omega arith);
     };
-    wide = omega arith
-  }
+    live = omega arith;
+    a_is = refl;
+    contexts_are = refl;
+  };
+  wide = omega arith;
+}

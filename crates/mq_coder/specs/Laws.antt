@@ -1,6 +1,6 @@
 -- What the coder's definitions promise together.
-use Rattle.std.specs.Prelude.{◌≡◌, ℕ, ◌+◌, ◌<◌, ◌≤◌, Bool, List, [], ◌∷◌, ◌++◌, length, take, map}
-use Rattle.mq_coder.specs.Decisions.{value, digits, decisions}
+use Rattle.std.specs.Prelude.{◌≡◌, ℕ, Bool, List, ◌++◌, length, take, map}
+use Rattle.mq_coder.specs.Decisions.{decisions}
 use Rattle.mq_coder.specs.Code.{code}
 
 -- the contexts and the bits of a list of symbols

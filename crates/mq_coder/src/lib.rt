@@ -12,7 +12,9 @@
 #![tactic(auto)]
 
 mod contexts;
+mod laws;
 mod states;
 
 pub use contexts::Contexts;
+pub use laws::inversion;
 pub use states::{StateRow, state_row};

@@ -1,11 +1,11 @@
 -- Decoding inverts coding.
-use Rattle.std.proofs.Common.{◌≡◌, ℕ, zero, suc, ◌+◌, ◌-◌, ◌*◌, ◌^◌, ◌<◌, ◌≤◌, Bool, true, false, cond, not, ltb, List, [], ◌∷◌, ◌++◌, length, take, map, fold, refl, sym, ap, ◌∙◌, arith, inl, inr, subst}
-use Rattle.std.proofs.lemmas.Bool.{cases_Bool, lt-ltb, le-ltb}
+use Rattle.std.proofs.Common.{◌≡◌, ℕ, suc, ◌+◌, ◌^◌, ◌<◌, ◌≤◌, Bool, true, false, List, [], ◌∷◌, ◌++◌, length, take, fold, refl, ap, ◌∙◌}
+use Rattle.std.proofs.lemmas.Bool.{lt-ltb, le-ltb}
 use Rattle.mq_coder.specs.Decisions.{digits, Interval, start_interval, estimate, part_symbol, part, doubled, is_lower, decisions_from, decisions}
 use Rattle.mq_coder.specs.Code.{Coding, start_coding, code_symbol, coded, ended, code}
 use Rattle.mq_coder.specs.Laws.{contexts_of, bits_of, Inverts}
 use Rattle.mq_coder.proofs.Estimates.{lower_of, symbol_of_part}
-use Rattle.mq_coder.proofs.Stands.{Stands, Ready, coded_ready, coded_fresh, start_ready, part_lower, part_upper}
+use Rattle.mq_coder.proofs.Stands.{Ready, coded_ready, coded_fresh, start_ready, part_lower, part_upper}
 use Rattle.mq_coder.proofs.Final.{ended_within}
 
 -- an interval's bounds hold for every code that goes on from it
@@ -43,7 +43,7 @@ inverted ((cx, bit) ∷ ys) further from to p x it h =
     let here : lower ≡ lower_of it.contexts it.size cx bit = ap (λ v. lower_of v x.a cx bit) h.stands.contexts_are ∙ ap (λ v. lower_of it.contexts v cx bit) h.stands.a_is in
     let symbol : part_symbol it.contexts it.size cx lower ≡ bit = ap (λ v. part_symbol it.contexts it.size cx v) here ∙ symbol_of_part it.contexts it.size cx bit in
     let rest : take (length ys) (decisions_from f (doubled 15 (part it cx lower)) (contexts_of ys ++ further)) ≡ bits_of ys =
-      inverted ys further _ _ _ (code_symbol x (cx, bit)) (doubled 15 (part it cx lower)) fresh in
+    inverted ys further _ _ _ (code_symbol x (cx, bit)) (doubled 15 (part it cx lower)) fresh in
     ap (λ v. take (suc (length ys)) v) (decisions_step f it cx (contexts_of ys ++ further) lower same)
     ∙ ap (λ v. v ∷ take (length ys) (decisions_from f (doubled 15 (part it cx lower)) (contexts_of ys ++ further))) symbol
     ∙ ap (λ v. bit ∷ v) rest

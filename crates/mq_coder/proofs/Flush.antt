@@ -1,16 +1,12 @@
 -- The ending: its bytes spell a whole number of the last interval, followed by ones.
-use Rattle.std.proofs.Common.{◌≡◌, ℕ, zero, suc, ◌+◌, ◌-◌, ◌*◌, ◌/◌, ◌%◌, ◌^◌, ◌<◌, ◌≤◌, Bool, true, false, cond, not, ◌&&◌, ltb, leb, eqb, ◌⊎◌, List, [], ◌∷◌, ◌++◌, length, get_or, set, take, refl, sym, ap, ◌∙◌, arith, inl, inr, subst}
-use Rattle.std.proofs.lemmas.Bool.{cases_lt, cases_eq, cases_Bool, cond-true, cond-false, false≢true, eq-eqb, ne_eqb, lt-ltb, le-ltb}
-use Rattle.std.proofs.lemmas.Nat.{pow_pos, pow-add, pow_below, div-add-mod', mod_below}
-use Rattle.std.proofs.Math.Nat.{mul-le-mul_left, mul-le-mul_right}
-use Rattle.mq_coder.specs.Decisions.{look, digits, ones, width, Interval}
-use Rattle.mq_coder.specs.Code.{Coding, last_byte, byte_out, set_bits, shift_out, drop_ff, ended}
-use Rattle.mq_coder.proofs.Arithmetic.{split_pow, last_units, above_ones, below_top}
-use Rattle.mq_coder.proofs.Look.{cut, join, look_more}
-use Rattle.mq_coder.proofs.Consumed.{taken, bits, ends_ff, Clean, width_low, look_full}
+use Rattle.std.proofs.Common.{◌≡◌, ℕ, ◌+◌, ◌-◌, ◌*◌, ◌/◌, ◌%◌, ◌^◌, ◌<◌, ◌≤◌, Bool, true, false, List, [], ◌∷◌, ◌++◌, length, refl, sym, arith, inl, inr, subst}
+use Rattle.std.proofs.lemmas.Bool.{cases_lt, cond-true, cond-false, lt-ltb, le-ltb}
+use Rattle.std.proofs.lemmas.Nat.{pow_pos, pow_below, div-add-mod', mod_below}
+use Rattle.mq_coder.specs.Decisions.{width}
+use Rattle.mq_coder.specs.Code.{Coding, byte_out, set_bits, shift_out}
+use Rattle.mq_coder.proofs.Consumed.{ends_ff, Clean, width_low}
 use Rattle.mq_coder.proofs.Out.{Shape, Shape.none, Shape.some, Out, out}
-use Rattle.mq_coder.proofs.Held.{Held, digits_look, less_bound, narrowed, moved, out_held, out_small}
-use Rattle.mq_coder.proofs.Stands.{Stands, Ready}
+use Rattle.mq_coder.proofs.Held.{Held, less_bound, narrowed, moved, out_held, out_small}
 
 pub shape_clean : (bs : List ℕ) (bound ct : ℕ) → Shape bs bound ct → Clean false bs
 shape_clean bs bound ct (none e le) = rw e tt
@@ -40,8 +36,8 @@ pub bits_set : (x : Coding) → 2 ^ 15 ≤ x.a → Filled x.c x.a (set_bits x).c
 unfolding set_bits
 bits_set x wide =
     elim (cases_lt (x.c / 2 ^ 16 * 2 ^ 16 + 65535) (x.c + x.a)) [
-      inl lt ↦ subst (λ v. Filled x.c x.a v) (sym (cond-true _ _ _ (lt-ltb _ _ lt))) (filled_in x.c x.a wide lt)
-    | inr ge ↦ subst (λ v. Filled x.c x.a v) (sym (cond-false _ _ _ (le-ltb _ _ ge))) (filled_less x.c x.a wide ge)
+      | inl lt ↦ subst (λ v. Filled x.c x.a v) (sym (cond-true _ _ _ (lt-ltb _ _ lt))) (filled_in x.c x.a wide lt)
+      | inr ge ↦ subst (λ v. Filled x.c x.a v) (sym (cond-false _ _ _ (le-ltb _ _ ge))) (filled_less x.c x.a wide ge)
     ]
 
 pub set_bytes : (x : Coding) → (set_bits x).bytes ≡ x.bytes
@@ -85,14 +81,14 @@ pub shift_out_held : (from to p : ℕ) (x : Coding) (low s : ℕ) → Held from 
 shift_out_held from to p x low s h =
     let held : Held from to p (shifted x).bytes (shifted x).c 0 (low * 2 ^ x.ct) (1 * 2 ^ x.ct) (s + x.ct) = shifted_held from to p x low s h in
     let o : Out (shifted x) (1 * 2 ^ x.ct) (byte_out (shifted x)) =
-      out (shifted x) (1 * 2 ^ x.ct)
-        (less_bound x.bytes ((x.c * 2 ^ x.ct + 1 * 2 ^ x.ct) * 2 ^ 0) (x.c * 2 ^ x.ct + 1 * 2 ^ x.ct) 0 0 held.shape (omega arith) (omega arith))
-        held.pos held.top in
+    out (shifted x) (1 * 2 ^ x.ct)
+    (less_bound x.bytes ((x.c * 2 ^ x.ct + 1 * 2 ^ x.ct) * 2 ^ 0) (x.c * 2 ^ x.ct + 1 * 2 ^ x.ct) 0 0 held.shape (omega arith) (omega arith))
+    held.pos held.top in
     let y : Coding = byte_out (shifted x) in
     let after : Held from to p (byte_out (shifted x)).bytes (byte_out (shifted x)).c (byte_out (shifted x)).ct (low * 2 ^ x.ct) (1 * 2 ^ x.ct) (s + x.ct) = out_held from to p (shifted x) (byte_out (shifted x)) (low * 2 ^ x.ct) (1 * 2 ^ x.ct) (s + x.ct) held o in
     let pos : 0 < 2 ^ x.ct = pow_pos x.ct in
     let one : Held from to p (byte_out (shifted x)).bytes ((byte_out (shifted x)).c + 0) (byte_out (shifted x)).ct (low * 2 ^ x.ct + 0) 1 (s + x.ct) =
-      narrowed from to p (byte_out (shifted x)).bytes (byte_out (shifted x)).c (byte_out (shifted x)).ct (low * 2 ^ x.ct) (1 * 2 ^ x.ct) (s + x.ct) 0 1 after (omega arith) (omega arith) in
+    narrowed from to p (byte_out (shifted x)).bytes (byte_out (shifted x)).c (byte_out (shifted x)).ct (low * 2 ^ x.ct) (1 * 2 ^ x.ct) (s + x.ct) 0 1 after (omega arith) (omega arith) in
     let e1 : (byte_out (shifted x)).c + 0 ≡ (byte_out (shifted x)).c = omega arith in
     let e2 : low * 2 ^ x.ct + 0 ≡ low * 2 ^ x.ct = omega arith in
     let wide : 7 ≤ width (ends_ff false o.base) = width_low (ends_ff false o.base) in
@@ -102,5 +98,9 @@ shift_out_held from to p x low s h =
       small = out_small (shifted x) (byte_out (shifted x)) (1 * 2 ^ x.ct) o;
       seven = omega arith;
       eight = width_top (ends_ff false o.base) _ o.width_is;
-      base = o.base; byte = o.byte; bytes_are = o.bytes_are; clean_all = o.clean_all; length_is = o.length_is
+      base = o.base;
+      byte = o.byte;
+      bytes_are = o.bytes_are;
+      clean_all = o.clean_all;
+      length_is = o.length_is;
     }
