@@ -5,7 +5,7 @@ use Rattle.mq_coder.specs.Decisions.{look, ones}
 use Rattle.mq_coder.proofs.Arithmetic.{split_pow, ones_div}
 use Rattle.mq_coder.proofs.Look.{join, look_cut, look_short_by, look_long_by, look_end, look_cases}
 
-ones_short : (acc d k : ℕ) → d + k ≡ 8 → (acc * 2 ^ 8 + 255) / 2 ^ k ≡ ones acc d
+pub ones_short : (acc d k : ℕ) → d + k ≡ 8 → (acc * 2 ^ 8 + 255) / 2 ^ k ≡ ones acc d
 ones_short acc d k e =
     let s : 2 ^ 8 ≡ 2 ^ d * 2 ^ k = split_pow d k 8 e in
     let m : (acc + 1) * 2 ^ 8 ≡ (acc + 1) * (2 ^ d * 2 ^ k) = ap (λ x. (acc + 1) * x) s in
@@ -13,7 +13,7 @@ ones_short acc d k e =
     let h : acc * 2 ^ 8 + 255 ≡ (acc + 1) * 2 ^ d * 2 ^ k - 1 = omega arith in
     ap (λ x. x / 2 ^ k) h ∙ ones_div ((acc + 1) * 2 ^ d) (2 ^ k) (omega arith) (pow_pos k)
 
-ones_long : (acc d k : ℕ) → d ≡ 8 + k → ones (acc * 2 ^ 8 + 255) k ≡ ones acc d
+pub ones_long : (acc d k : ℕ) → d ≡ 8 + k → ones (acc * 2 ^ 8 + 255) k ≡ ones acc d
 ones_long acc d k e =
     let s : 2 ^ d ≡ 2 ^ 8 * 2 ^ k = split_pow 8 k d (sym e) in
     let m : (acc + 1) * 2 ^ d ≡ (acc + 1) * (2 ^ 8 * 2 ^ k) = ap (λ x. (acc + 1) * x) s in

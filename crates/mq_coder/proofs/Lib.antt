@@ -1,12 +1,13 @@
 mod Arithmetic
 mod Consumed
 mod Ends
-mod Held
 mod Estimates
-mod Stands
-mod Flush
 mod Final
+mod Flush
+mod Held
 mod Inverts
 mod Look
 mod Out
+mod Stands
 mod Vectors
+mod Weights
