@@ -118,7 +118,7 @@ pub record Shifts (from to p : ℕ) (x : Coding) (low s : ℕ) : Type 0 where
   pub one : Shifted from to p (set_bits x) (low + f.d) s (shift_out (set_bits x))
   pub two : Shifted from to p (shift_out (set_bits x)) ((low + f.d) * 2 ^ (set_bits x).ct) (s + (set_bits x).ct) (shift_out (shift_out (set_bits x)))
 
-shifts : (from to p : ℕ) (x : Coding) (it : Interval) → Ready from to p x it → Shifts from to p x it.low it.scale
+pub shifts : (from to p : ℕ) (x : Coding) (it : Interval) → Ready from to p x it → Shifts from to p x it.low it.scale
 shifts from to p x it h =
     let a_is : x.a ≡ it.size = h.stands.a_is in
     let f : Filled x.c x.a (set_bits x).c = bits_set x (let w : 2 ^ 15 ≤ x.a = rw a_is h.wide in w) in
@@ -181,14 +181,14 @@ spelt_below from to p bytes low size s h later below =
     below_top (digits bytes p) (2 ^ (s - p)) h.number (low + size) (2 ^ p) to (2 ^ s) (pow_pos p) low_part h.inside below e3
 
 -- a last byte FF makes no difference
-drop_ff_is : (base : List ℕ) → drop_ff (base ++ 255 ∷ []) ≡ base
+pub drop_ff_is : (base : List ℕ) → drop_ff (base ++ 255 ∷ []) ≡ base
 unfolding drop_ff
 drop_ff_is base =
     cond-true _ _ _ (eq-eqb _ _ (last_snoc base 255))
     ∙ ap (λ n. take n (base ++ 255 ∷ [])) (last_place base 255)
     ∙ take-append_seam base (255 ∷ [])
 
-drop_ff_not : (base : List ℕ) (x : ℕ) → (x ≡ 255 → ⊥) → drop_ff (base ++ x ∷ []) ≡ base ++ x ∷ []
+pub drop_ff_not : (base : List ℕ) (x : ℕ) → (x ≡ 255 → ⊥) → drop_ff (base ++ x ∷ []) ≡ base ++ x ∷ []
 unfolding drop_ff
 drop_ff_not base x h = cond-false _ _ _ (ne_eqb _ _ (λ e. h (sym (last_snoc base x) ∙ e)))
 
@@ -199,7 +199,7 @@ drop_ff_look base x d =
       | inr ne ↦ ap (λ v. look 0 false v d) (drop_ff_not base x ne)
     ]
 
-ended_is : (x : Coding) → ended x ≡ drop_ff (shift_out (shift_out (set_bits x))).bytes
+pub ended_is : (x : Coding) → ended x ≡ drop_ff (shift_out (shift_out (set_bits x))).bytes
 unfolding ended
 ended_is x = refl
 

@@ -7,7 +7,8 @@ mod Flush
 mod Held
 mod Inverts
 mod Look
+mod Marks
 mod Out
 mod Stands
+mod Sums
 mod Vectors
-mod Weights

@@ -16,5 +16,5 @@ mod laws;
 mod states;
 
 pub use contexts::Contexts;
-pub use laws::inversion;
+pub use laws::{code_form, inversion, register_bounds, weights};
 pub use states::{StateRow, state_row};

@@ -1,8 +1,8 @@
 -- The value of a string, as a sum of weighted bytes, is its digits.
-use Rattle.std.proofs.Common.{◌≡◌, ℕ, zero, suc, ◌+◌, ◌-◌, ◌*◌, ◌/◌, ◌^◌, ◌<◌, ◌≤◌, Bool, true, false, cond, ◌&&◌, ltb, eqb, List, [], ◌∷◌, length, get_or, drop, refl, sym, ap, ◌∙◌, arith, inl, inr, subst, drop-cons}
-use Rattle.std.proofs.lemmas.Bool.{cases_lt, cases_Bool, cond-true, cond-false, lt-ltb, le-ltb, false≢true, and_right}
+use Rattle.std.proofs.Common.{◌≡◌, ℕ, zero, suc, ◌+◌, ◌-◌, ◌*◌, ◌/◌, ◌^◌, ◌<◌, ◌≤◌, Bool, true, false, eqb, List, [], ◌∷◌, length, get_or, drop, refl, sym, ap, ◌∙◌, arith, inl, inr, drop-cons}
+use Rattle.std.proofs.lemmas.Bool.{cases_lt, cases_Bool, cond-true, cond-false, lt-ltb, le-ltb, and_right}
 use Rattle.std.proofs.lemmas.List.{get_or_past}
-use Rattle.mq_coder.specs.Decisions.{kept, byte_at, width_after, place, total, last_counting, value, look, digits, ones, width}
+use Rattle.mq_coder.specs.Decisions.{kept, byte_at, width_after, place, total, last_counting, value, look, digits, width}
 use Rattle.mq_coder.proofs.Ends.{ones_short, ones_long}
 use Rattle.mq_coder.proofs.Consumed.{width_low}
 use Rattle.mq_coder.proofs.Held.{digits_look}
@@ -33,28 +33,28 @@ kept_uncut : (ff : Bool) (b : ℕ) (r : List ℕ) → cut ff b ≡ false → Unc
 kept_uncut ff b [] h = rw (kept_one b) (h, tt)
 kept_uncut ff b (next ∷ rest) h =
     elim (cases_Bool (cut (eqb b 255) next)) [
-      inl c ↦ rw (kept_cut b next rest c) (h, tt)
-    | inr c ↦ rw (kept_more b next rest c) (h, kept_uncut (eqb b 255) next rest c)
+      | inl c ↦ rw (kept_cut b next rest c) (h, tt)
+      | inr c ↦ rw (kept_more b next rest c) (h, kept_uncut (eqb b 255) next rest c)
     ]
 
 same_rest : (acc : ℕ) (ff : Bool) (b : ℕ) (r r' : List ℕ) (d : ℕ) → ((k : ℕ) → look (join acc ff b) (eqb b 255) r k ≡ look (join acc ff b) (eqb b 255) r' k) → look acc ff (b ∷ r) d ≡ look acc ff (b ∷ r') d
 same_rest acc ff b r r' d h =
     look_cases (λ y. y ≡ look acc ff (b ∷ r') d) acc ff b r d
-      (λ c. sym (look_cut acc ff b r' d c))
-      (λ k c e. sym (look_short_by acc ff b r' d k c e))
-      (λ k c p e. h k ∙ sym (look_long_by acc ff b r' d k c p e))
+    (λ c. sym (look_cut acc ff b r' d c))
+    (λ k c e. sym (look_short_by acc ff b r' d k c e))
+    (λ k c p e. h k ∙ sym (look_long_by acc ff b r' d k c p e))
 
 -- the digits are those of the kept bytes
 kept_look : (acc : ℕ) (ff : Bool) (b : ℕ) (r : List ℕ) (d : ℕ) → look acc ff (b ∷ r) d ≡ look acc ff (kept (b ∷ r)) d
 kept_look acc ff b [] d = rw (kept_one b) refl
 kept_look acc ff b (next ∷ rest) d =
     elim (cases_Bool (cut (eqb b 255) next)) [
-      inl c ↦
-        rw (kept_cut b next rest c)
+      | inl c ↦
+          rw (kept_cut b next rest c)
           (same_rest acc ff b (next ∷ rest) [] d
-            (λ k. look_cut (join acc ff b) (eqb b 255) next rest k c ∙ sym (look_end (join acc ff b) (eqb b 255) k)))
-    | inr c ↦
-        rw (kept_more b next rest c)
+          (λ k. look_cut (join acc ff b) (eqb b 255) next rest k c ∙ sym (look_end (join acc ff b) (eqb b 255) k)))
+      | inr c ↦
+          rw (kept_more b next rest c)
           (same_rest acc ff b (next ∷ rest) (kept (next ∷ rest)) d (λ k. kept_look (join acc ff b) (eqb b 255) next rest k))
     ]
 
@@ -72,8 +72,8 @@ width_inside : (ks : List ℕ) (i : ℕ) → suc i < length ks → width_after k
 unfolding width_after byte_at
 width_inside ks i lt =
     elim (cases_Bool (eqb (get_or ks i 255) 255)) [
-      inl h ↦ rw (h, lt-ltb (i + 1) (length ks) (omega arith)) refl
-    | inr h ↦ rw h refl
+      | inl h ↦ rw (h, lt-ltb (i + 1) (length ks) (omega arith)) refl
+      | inr h ↦ rw h refl
     ]
 
 width_past : (ks : List ℕ) (i : ℕ) → length ks ≤ suc i → width_after ks i ≡ 8
@@ -101,27 +101,27 @@ drop_past (b ∷ r) (suc n) le = drop_past r n (omega arith)
 fed_short : (ks : List ℕ) (i d k : ℕ) → Uncut false ks → d + k ≡ width_after ks i → behind ks i d ≡ total ks (suc i) / 2 ^ k
 fed_short ks i d k clean e =
     elim (cases_lt (suc i) (length ks)) [
-      inl lt ↦
-        let w : width_after ks i ≡ width (eqb (get_or ks i 255) 255) = width_inside ks i lt in
-        rw (rest_inside ks i lt, total_next ks i, w)
+      | inl lt ↦
+          let w : width_after ks i ≡ width (eqb (get_or ks i 255) 255) = width_inside ks i lt in
+          rw (rest_inside ks i lt, total_next ks i, w)
           (look_short_by (total ks i) (eqb (get_or ks i 255) 255) (get_or ks (suc i) 255) (drop (suc (suc i)) ks) d k (uncut_at false ks i clean lt) (e ∙ w))
-    | inr le ↦
-        let w : width_after ks i ≡ 8 = width_past ks i le in
-        rw (drop_past ks (suc i) le, total_next ks i, w, get_or_past ks (suc i) 255 le)
+      | inr le ↦
+          let w : width_after ks i ≡ 8 = width_past ks i le in
+          rw (drop_past ks (suc i) le, total_next ks i, w, get_or_past ks (suc i) 255 le)
           (look_end (total ks i) _ d ∙ sym (ones_short (total ks i) d k (e ∙ w)))
     ]
 
 fed_long : (ks : List ℕ) (i d k : ℕ) → Uncut false ks → 1 ≤ k → d ≡ width_after ks i + k → behind ks i d ≡ behind ks (suc i) k
 fed_long ks i d k clean one e =
     elim (cases_lt (suc i) (length ks)) [
-      inl lt ↦
-        let w : width_after ks i ≡ width (eqb (get_or ks i 255) 255) = width_inside ks i lt in
-        rw (rest_inside ks i lt, total_next ks i, w)
+      | inl lt ↦
+          let w : width_after ks i ≡ width (eqb (get_or ks i 255) 255) = width_inside ks i lt in
+          rw (rest_inside ks i lt, total_next ks i, w)
           (look_long_by (total ks i) (eqb (get_or ks i 255) 255) (get_or ks (suc i) 255) (drop (suc (suc i)) ks) d k (uncut_at false ks i clean lt) one (e ∙ ap (λ v. v + k) w))
-    | inr le ↦
-        let w : width_after ks i ≡ 8 = width_past ks i le in
-        let le' : length ks ≤ suc (suc i) = omega arith in
-        rw (drop_past ks (suc i) le, drop_past ks (suc (suc i)) le', total_next ks i, w, get_or_past ks (suc i) 255 le)
+      | inr le ↦
+          let w : width_after ks i ≡ 8 = width_past ks i le in
+          let le' : length ks ≤ suc (suc i) = omega arith in
+          rw (drop_past ks (suc i) le, drop_past ks (suc (suc i)) le', total_next ks i, w, get_or_past ks (suc i) 255 le)
           (look_end (total ks i) _ d ∙ sym (ones_long (total ks i) d k (e ∙ ap (λ v. v + k) w)) ∙ sym (look_end _ _ k))
     ]
 
@@ -137,8 +137,8 @@ place_first ks = refl
 width_least : (ks : List ℕ) (i : ℕ) → 7 ≤ width_after ks i
 width_least ks i =
     elim (cases_lt (suc i) (length ks)) [
-      inl lt ↦ rw (width_inside ks i lt) (width_low (eqb (get_or ks i 255) 255))
-    | inr le ↦ rw (width_past ks i le) (omega arith)
+      | inl lt ↦ rw (width_inside ks i lt) (width_low (eqb (get_or ks i 255) 255))
+      | inr le ↦ rw (width_past ks i le) (omega arith)
     ]
 
 -- as long as the bytes up to i give fewer digits than are asked for
@@ -165,8 +165,8 @@ sum_digits : (ks : List ℕ) (s i : ℕ) → Uncut false ks → s + 15 ≤ place
 sum_digits ks s zero clean enough = absurd (let p : place ks 0 ≡ 8 = place_first ks in omega arith)
 sum_digits ks s (suc i) clean enough =
     elim (cases_lt (place ks i) (s + 15)) [
-      inl lt ↦ rw (counts ks s i lt) (read_last ks i (s + 15) (place ks (suc i) - (s + 15)) clean lt (omega arith))
-    | inr ge ↦ rw (counts_not ks s i ge) (sum_digits ks s i clean ge)
+      | inl lt ↦ rw (counts ks s i lt) (read_last ks i (s + 15) (place ks (suc i) - (s + 15)) clean lt (omega arith))
+      | inr ge ↦ rw (counts_not ks s i ge) (sum_digits ks s i clean ge)
     ]
 
 place_grows : (ks : List ℕ) (i : ℕ) → 7 * i + 8 ≤ place ks i
