@@ -1,4 +1,7 @@
 pub mod Code
 pub mod Decisions
+pub mod Encoder
 pub mod Laws
+pub mod Mark
+pub mod Registers
 pub mod States
