@@ -1,14 +1,14 @@
-mod Arithmetic
-mod Consumed
-mod Ends
-mod Estimates
-mod Final
-mod Flush
-mod Held
-mod Inverts
-mod Look
-mod Marks
-mod Out
-mod Stands
-mod Sums
+pub mod Arithmetic
+pub mod Consumed
+pub mod Ends
+pub mod Estimates
+pub mod Final
+pub mod Flush
+pub mod Held
+pub mod Inverts
+pub mod Look
+pub mod Marks
+pub mod Out
+pub mod Stands
+pub mod Sums
 mod Vectors
