@@ -1,7 +1,7 @@
 -- A decoder's registers through the steps of the procedures: each keeps what they hold.
-use Rattle.std.proofs.Common.{◌≡◌, ℕ, zero, suc, ◌+◌, ◌-◌, ◌*◌, ◌/◌, ◌^◌, ◌<◌, ◌≤◌, min, Bool, true, false, ltb, List, [], ◌∷◌, ◌++◌, fold, refl, sym, ap, ◌∙◌, arith, inl, inr}
-use Rattle.std.proofs.lemmas.Bool.{cases_lt, cond-true, cond-false, lt-ltb, le-ltb}
-use Rattle.mq_coder.specs.Decisions.{digits, Interval, start_interval, estimate, part_symbol, part, twice, doubled, is_lower, next_interval, decisions_from, decisions, interval_after}
+use Rattle.std.proofs.Common.{◌≡◌, ℕ, suc, ◌+◌, ◌-◌, ◌*◌, ◌/◌, ◌^◌, ◌<◌, ◌≤◌, min, Bool, true, false, ltb, List, [], ◌∷◌, ◌++◌, fold, refl, sym, ap, ◌∙◌, arith, inl, inr}
+use Rattle.std.proofs.lemmas.Bool.{cases_lt, lt-ltb, le-ltb}
+use Rattle.mq_coder.specs.Decisions.{digits, Interval, start_interval, estimate, part_symbol, part, twice, is_lower, next_interval, decisions_from, decisions, interval_after}
 use Rattle.mq_coder.specs.Reading.{Holds}
 use Rattle.mq_coder.proofs.Estimates.{estimate_bounded}
 use Rattle.mq_coder.proofs.Fed.{Fed, reads_start, reads_digits, reads_upper, reads_doubled, reads_fed}
@@ -122,16 +122,6 @@ holds_start bytes b0 b1 w ff1 ff2 r1 r2 f1 f2 =
           | inl lt ↦ let e : w ≡ 7 = omega arith in rw e (omega arith)
           | inr ge ↦ let e : w ≡ 8 = omega arith in rw e (omega arith)
         ]
-
--- the turns, as a loop counts them
-pub doubled_turn : (n : ℕ) (it : Interval) → it.size < 2 ^ 15 → doubled (suc n) it ≡ doubled n (twice it)
-unfolding doubled
-doubled_turn n it lt = cond-true _ _ _ (lt-ltb _ _ lt)
-
-pub doubled_done : (n : ℕ) (it : Interval) → 2 ^ 15 ≤ it.size → doubled n it ≡ it
-unfolding doubled
-doubled_done zero it ge = refl
-doubled_done (suc n) it ge = cond-false _ _ _ (le-ltb _ _ ge)
 
 -- one context more
 pub interval_more : (bytes : List ℕ) (cxs : List ℕ) (cx : ℕ) → interval_after bytes (cxs ++ cx ∷ []) ≡ next_interval bytes (interval_after bytes cxs) cx
