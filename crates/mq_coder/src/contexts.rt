@@ -1,7 +1,9 @@
 // The contexts of a coder or decoder.
-ghost use Rattle.std.specs.Prelude.{◌≡◌, ◌<◌, ℕ, Bool, List, All, set};
-ghost use Rattle.mq_coder.specs.States.{start_contexts, context_at, InTable};
+ghost use Rattle.std.specs.Prelude.{◌≡◌, ◌<◌, ◌≤◌, ℕ, Bool, List, All, set};
+ghost use Rattle.mq_coder.specs.States.{start_contexts, context_at, after_symbol, InTable};
+ghost use Rattle.mq_coder.specs.Decisions.{estimate};
 
+use crate::states::state_row;
 use std::marker::Model;
 
 /// The 19 contexts of ISO/IEC 15444-1, Annex D, each with its state, below 47, and its more
@@ -50,5 +52,35 @@ impl Contexts {
         ensures { self.new ≡ set self.old cx (state, more) }
     {
         self.pairs[cx as usize] = (state, more);
+    }
+    /// The estimate Qe of context `cx`, below 19: of 0x5601 at most, which is less than half of
+    /// three quarters.
+    #[inline]
+    #[tactic(auto, using(crate::proofs::Rows::row_in_range), unfolding(crate::specs::States::context_at, crate::specs::Decisions::estimate))]
+    pub fn estimate(&self, cx: u8) -> u32
+        requires { cx < 19 }
+        ensures value { result ≡ estimate self.now cx }
+        ensures some { 1 ≤ result }
+        ensures most { result ≤ 0x5601 }
+    {
+        let (state, _) = self.get(cx);
+        u32::from(state_row(state).qe)
+    }
+
+    /// What the symbol `bit` teaches context `cx`, below 19: the next state of its row, and after the
+    /// less probable symbol where the row says so the other more probable symbol.
+    #[inline]
+    #[tactic(auto, using(crate::proofs::Rows::row_in_range), unfolding(crate::specs::States::after_symbol, crate::specs::States::context_at))]
+    pub fn learn(&mut self, cx: u8, bit: bool)
+        requires { cx < 19 }
+        ensures { self.new ≡ set self.old cx (after_symbol (context_at self.old cx) bit) }
+    {
+        let (state, more) = self.get(cx);
+        let row = state_row(state);
+        if bit == more {
+            self.set(cx, row.nmps, more);
+        } else {
+            self.set(cx, row.nlps, more != row.switch);
+        }
     }
 }
