@@ -1,12 +1,12 @@
 -- The ending: its bytes spell a whole number of the last interval, followed by ones.
-use Rattle.std.proofs.Common.{◌≡◌, ℕ, ◌+◌, ◌-◌, ◌*◌, ◌/◌, ◌%◌, ◌^◌, ◌<◌, ◌≤◌, Bool, true, false, List, [], ◌∷◌, ◌++◌, length, refl, sym, arith, inl, inr, subst}
+use Rattle.std.proofs.Common.{◌≡◌, ℕ, ◌+◌, ◌-◌, ◌*◌, ◌/◌, ◌%◌, ◌^◌, ◌<◌, ◌≤◌, false, List, [], ◌∷◌, ◌++◌, length, refl, sym, arith, inl, inr, subst}
 use Rattle.std.proofs.lemmas.Bool.{cases_lt, cond-true, cond-false, lt-ltb, le-ltb}
 use Rattle.std.proofs.lemmas.Nat.{pow_pos, pow_below, div-add-mod', mod_below}
 use Rattle.mq_coder.specs.Decisions.{width}
 use Rattle.mq_coder.specs.Code.{Coding, byte_out, set_bits, shift_out}
 use Rattle.mq_coder.proofs.Consumed.{ends_ff, Clean, width_low}
 use Rattle.mq_coder.proofs.Out.{Shape, Shape.none, Shape.some, Out, out}
-use Rattle.mq_coder.proofs.Held.{Held, less_bound, narrowed, moved, out_held, out_small}
+use Rattle.mq_coder.proofs.Held.{Held, less_bound, narrowed, moved, out_held, out_small, width_top}
 
 pub shape_clean : (bs : List ℕ) (bound ct : ℕ) → Shape bs bound ct → Clean false bs
 shape_clean bs bound ct (none e le) = rw e tt
@@ -66,10 +66,6 @@ pub record Shifted (from to p : ℕ) (x : Coding) (low s : ℕ) (y : Coding) : T
   pub bytes_are : y.bytes ≡ base ++ byte ∷ []
   pub clean_all : Clean false (base ++ byte ∷ [])
   pub length_is : length base ≡ length x.bytes
-
-width_top : (ff : Bool) (n : ℕ) → width ff ≡ n → n ≤ 8
-width_top true n e = omega arith
-width_top false n e = omega arith
 
 shifted_held : (from to p : ℕ) (x : Coding) (low s : ℕ) → Held from to p x.bytes x.c x.ct low 1 s → Held from to p (shifted x).bytes (shifted x).c 0 (low * 2 ^ x.ct) (1 * 2 ^ x.ct) (s + x.ct)
 shifted_held from to p x low s h =

@@ -135,6 +135,10 @@ new_digits bs base byte p r e clean lt enough =
     let e' : p + 15 + r ≡ bits false (base ++ byte ∷ []) = enough ∙ ap (λ v. bits false v) e in
     digits_look bs p ∙ rw e (look_last 0 false base byte (p + 15) r clean lt e')
 
+pub width_top : (ff : Bool) (n : ℕ) → width ff ≡ n → n ≤ 8
+width_top true n e = omega arith
+width_top false n e = omega arith
+
 pub out_held : (from to p : ℕ) (x y : Coding) (low size s : ℕ) → Held from to p x.bytes x.c 0 low size s → Out x size y → Held from to p y.bytes y.c y.ct low size s
 out_held from to p x y low size s h o =
     let width_is : width (ends_ff false o.base) ≡ y.ct = o.width_is in
@@ -173,10 +177,6 @@ out_held from to p x y low size s h o =
             rw value (omega arith)
       ];
     }
-  where
-    width_top : (ff : Bool) (n : ℕ) → width ff ≡ n → n ≤ 8
-    width_top true n e = omega arith
-    width_top false n e = omega arith
 
 -- an interval bounds itself
 pub fresh : (from to p : ℕ) (bs : List ℕ) (c ct low size s : ℕ) → Held from to p bs c ct low size s → Held low (low + size) s bs c ct low size s

@@ -1,7 +1,7 @@
 -- Decoding inverts coding.
 use Rattle.std.proofs.Common.{◌≡◌, ℕ, suc, ◌+◌, ◌^◌, ◌<◌, ◌≤◌, Bool, true, false, List, [], ◌∷◌, ◌++◌, length, take, fold, refl, ap, ◌∙◌}
 use Rattle.std.proofs.lemmas.Bool.{lt-ltb, le-ltb}
-use Rattle.mq_coder.specs.Decisions.{digits, Interval, start_interval, estimate, part_symbol, part, doubled, is_lower, decisions_from, decisions}
+use Rattle.mq_coder.specs.Decisions.{digits, Interval, start_interval, estimate, part_symbol, part, doubled, is_lower, next_interval, decisions_from, decisions}
 use Rattle.mq_coder.specs.Code.{Coding, start_coding, code_symbol, coded, ended, code}
 use Rattle.mq_coder.specs.Laws.{contexts_of, bits_of, Inverts}
 use Rattle.mq_coder.proofs.Estimates.{lower_of, symbol_of_part}
@@ -29,7 +29,7 @@ decided bytes it cx true h = lower_decided bytes it cx (rw (part_lower it cx) at
 decided bytes it cx false h = upper_decided bytes it cx (rw (part_upper it cx) at h).0
 
 decisions_step : (bytes : List ℕ) (it : Interval) (cx : ℕ) (cxs : List ℕ) (lower : Bool) → is_lower bytes it cx ≡ lower → decisions_from bytes it (cx ∷ cxs) ≡ part_symbol it.contexts it.size cx lower ∷ decisions_from bytes (doubled 15 (part it cx lower)) cxs
-unfolding decisions_from
+unfolding decisions_from next_interval
 decisions_step bytes it cx cxs lower e =
     ap (λ v. part_symbol it.contexts it.size cx v ∷ decisions_from bytes (doubled 15 (part it cx v)) cxs) e
 

@@ -1,22 +1,24 @@
-mod Arithmetic
-mod Behind
-mod Consumed
-mod EndedLemmas
-mod Ends
-mod Estimates
-mod Final
-mod Flush
-mod Held
-mod Inverts
-mod Lists
-mod Look
-mod MarkLemmas
-mod Marks
-mod Out
-mod Rows
-mod Stands
-mod Sums
-mod Symbols
-mod Turns
+pub mod Arithmetic
+pub mod Behind
+pub mod Consumed
+pub mod EndedLemmas
+pub mod Ends
+pub mod Estimates
+pub mod Fed
+pub mod Final
+pub mod Flush
+pub mod Held
+pub mod Holding
+pub mod Inverts
+pub mod Lists
+pub mod Look
+pub mod MarkLemmas
+pub mod Marks
+pub mod Out
+pub mod Rows
+pub mod Stands
+pub mod Sums
+pub mod Symbols
+pub mod Turns
 mod Vectors
-mod Widths
+pub mod Widths

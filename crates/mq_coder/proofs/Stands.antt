@@ -69,7 +69,7 @@ shift_stands from to p x it h lt =
           }
     ]
 
-renormalise_turn : (n : ℕ) (x : Coding) → x.a < 2 ^ 15 → renormalise (suc n) x ≡ renormalise n (shift x)
+pub renormalise_turn : (n : ℕ) (x : Coding) → x.a < 2 ^ 15 → renormalise (suc n) x ≡ renormalise n (shift x)
 unfolding renormalise
 renormalise_turn n x lt = cond-true _ _ _ (lt-ltb _ _ lt)
 
@@ -78,11 +78,12 @@ unfolding renormalise
 renormalise_done zero x ge = refl
 renormalise_done (suc n) x ge = cond-false _ _ _ (le-ltb _ _ ge)
 
-doubled_turn : (n : ℕ) (it : Interval) → it.size < 2 ^ 15 → doubled (suc n) it ≡ doubled n (twice it)
+-- the turns of the interval, as a loop counts them
+pub doubled_turn : (n : ℕ) (it : Interval) → it.size < 2 ^ 15 → doubled (suc n) it ≡ doubled n (twice it)
 unfolding doubled
 doubled_turn n it lt = cond-true _ _ _ (lt-ltb _ _ lt)
 
-doubled_done : (n : ℕ) (it : Interval) → 2 ^ 15 ≤ it.size → doubled n it ≡ it
+pub doubled_done : (n : ℕ) (it : Interval) → 2 ^ 15 ≤ it.size → doubled n it ≡ it
 unfolding doubled
 doubled_done zero it ge = refl
 doubled_done (suc n) it ge = cond-false _ _ _ (le-ltb _ _ ge)

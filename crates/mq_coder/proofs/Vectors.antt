@@ -1,7 +1,7 @@
 -- The definitions at strings and lists of symbols whose codes are known.
 use Rattle.std.proofs.Common.{◌≡◌, ℕ, Bool, true, false, List, [], ◌∷◌, replicate, refl}
 use Rattle.mq_coder.specs.States.{state_table, row, start_contexts, after_symbol}
-use Rattle.mq_coder.specs.Decisions.{kept, byte_at, width_after, place, total, last_counting, value, look, digits, start_interval, estimate, part_symbol, part_contexts, part, doubled, is_lower, decisions_from, decisions}
+use Rattle.mq_coder.specs.Decisions.{kept, byte_at, width_after, place, total, last_counting, value, look, digits, start_interval, estimate, part_symbol, part_contexts, part, doubled, is_lower, next_interval, decisions_from, decisions}
 use Rattle.mq_coder.specs.Code.{start_coding, byte_out, shift, renormalise, code_more, code_less, code_symbol, coded, set_bits, shift_out, drop_ff, ended, code}
 
 no_symbol : code [] ≡ 0xFF ∷ 0x7F ∷ []
@@ -64,6 +64,25 @@ read_bits =
     true ∷ false ∷ true ∷ true ∷ true ∷ true ∷ true ∷ true ∷
     []
 
+-- a carry behind FF that is cut off in the last byte that counts
+uniform_carry :
+    code ((18, false) ∷ (18, false) ∷ (18, true) ∷ (18, false) ∷ (18, false) ∷ (18, false) ∷ (18, false) ∷ (18, false) ∷ (18, false) ∷ (18, false) ∷ (18, false) ∷ (18, false) ∷ (18, false) ∷ (18, false) ∷ (18, false) ∷ (18, true) ∷ (18, false) ∷ (18, false) ∷ (18, false) ∷ (18, true) ∷ (18, false) ∷ [])
+    ≡ 0x80 ∷ 0xFF ∷ 0x87 ∷ []
+unfolding state_table row start_contexts after_symbol estimate start_coding byte_out shift renormalise code_more code_less code_symbol coded set_bits shift_out drop_ff ended code
+uniform_carry = refl
+
+-- a value that has left the interval decides for the upper part
+outside :
+    decisions (0xFF ∷ 0x80 ∷ []) (replicate 16 18)
+    ≡ true ∷ true ∷ true ∷ true ∷ true ∷ false ∷ true ∷ false ∷ false ∷ false ∷ false ∷ false ∷ false ∷ false ∷ true ∷ true ∷ []
+unfolding state_table row start_contexts after_symbol look digits start_interval estimate part_symbol part_contexts part doubled is_lower next_interval decisions_from decisions
+outside = refl
+
+-- a reader that looks further ahead than the bytes that count would decide for 1
+not_ahead : decisions (0xAC ∷ 0x01 ∷ 0xFF ∷ 0x80 ∷ []) (18 ∷ []) ≡ false ∷ []
+unfolding state_table row start_contexts after_symbol look digits start_interval estimate part_symbol part_contexts part doubled is_lower next_interval decisions_from decisions
+not_ahead = refl
+
 -- a carry behind FF may be cut off: the value is no rounding of one number
 cut_behind_ff : digits (0x00 ∷ 0xFF ∷ 0x80 ∷ []) 1 ≡ 255
 unfolding look digits
@@ -86,5 +105,5 @@ unfolding kept byte_at width_after place total last_counting value
 ended_by_marker = refl
 
 thirty_bytes : decisions read_bytes (replicate 256 9) ≡ read_bits
-unfolding read_bytes read_bits state_table row start_contexts after_symbol look digits start_interval estimate part_symbol part_contexts part doubled is_lower decisions_from decisions
+unfolding read_bytes read_bits state_table row start_contexts after_symbol look digits start_interval estimate part_symbol part_contexts part doubled is_lower next_interval decisions_from decisions
 thirty_bytes = refl

@@ -1,5 +1,5 @@
 -- What a byte string decides: ISO/IEC 15444-1, Annex C.3, with one growing sum in place of registers.
-use Rattle.std.specs.Prelude.{ℕ, zero, suc, ◌+◌, ◌-◌, ◌*◌, ◌/◌, ◌^◌, Bool, false, ◌&&◌, ◌==◌, nat_lt, nat_le, List, [], ◌∷◌, length, get_or, set, not, if◌then◌else◌}
+use Rattle.std.specs.Prelude.{ℕ, zero, suc, ◌+◌, ◌-◌, ◌*◌, ◌/◌, ◌^◌, Bool, false, ◌&&◌, ◌==◌, nat_lt, nat_le, List, [], ◌∷◌, length, get_or, set, fold, not, if◌then◌else◌}
 use Rattle.mq_coder.specs.States.{row, start_contexts, context_at, same, after_symbol}
 
 -- The value of a byte string, in the words of weights.
@@ -121,13 +121,20 @@ doubled (suc n) it =
 unfoldable pub is_lower : List ℕ → Interval → ℕ → Bool
 is_lower bytes it cx = nat_lt (digits bytes it.scale) (it.low + estimate it.contexts cx)
 
+-- the interval that a decision leaves
+unfoldable pub next_interval : List ℕ → Interval → ℕ → Interval
+next_interval bytes it cx = doubled 15 (part it cx (is_lower bytes it cx))
+
 unfoldable pub decisions_from : List ℕ → Interval → List ℕ → List Bool
 decisions_from bytes it [] = []
 decisions_from bytes it (cx ∷ cxs) =
-    let lower = is_lower bytes it cx in
-    part_symbol it.contexts it.size cx lower ∷
-    decisions_from bytes (doubled 15 (part it cx lower)) cxs
+    part_symbol it.contexts it.size cx (is_lower bytes it cx)
+    ∷ decisions_from bytes (next_interval bytes it cx) cxs
 
 -- the decisions of a byte string for a list of contexts
 unfoldable pub decisions : List ℕ → List ℕ → List Bool
 decisions bytes cxs = decisions_from bytes start_interval cxs
+
+-- the interval that they leave
+unfoldable pub interval_after : List ℕ → List ℕ → Interval
+interval_after bytes cxs = fold (next_interval bytes) start_interval cxs

@@ -3,5 +3,6 @@ pub mod Decisions
 pub mod Encoder
 pub mod Laws
 pub mod Mark
+pub mod Reading
 pub mod Registers
 pub mod States
