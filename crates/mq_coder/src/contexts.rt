@@ -36,6 +36,7 @@ impl Contexts {
     }
 
     /// The state of context `cx`, below 47, and its more probable symbol; `cx` is below 19.
+    #[inline]
     pub fn get(&self, cx: u8) -> (u8, bool)
         requires { cx < 19 }
         ensures pair { result ≡ context_at self.now cx }
@@ -46,6 +47,7 @@ impl Contexts {
 
     /// Gives context `cx`, below 19, the state `state`, below 47, and the more probable symbol
     /// `more`; the other contexts stay.
+    #[inline]
     pub fn set(&mut self, cx: u8, state: u8, more: bool)
         requires context { cx < 19 }
         requires state { state < 47 }
@@ -53,8 +55,9 @@ impl Contexts {
     {
         self.pairs[cx as usize] = (state, more);
     }
-    /// The estimate Qe of context `cx`, below 19: of 0x5601 at most, which is less than half of
-    /// three quarters.
+
+    /// The estimate Qe of the state of context `cx`, below 19: from 1 to 0x5601, where 0x8000 stands
+    /// for three quarters.
     #[inline]
     #[tactic(auto, using(crate::proofs::Rows::row_in_range), unfolding(crate::specs::States::context_at, crate::specs::Decisions::estimate))]
     pub fn estimate(&self, cx: u8) -> u32

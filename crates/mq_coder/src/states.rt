@@ -17,7 +17,7 @@ pub struct StateRow {
 
 // Table C.2.
 #[rattlefmt::skip]
-const ROWS: [StateRow; 47] = [
+static ROWS: [StateRow; 47] = [
     StateRow { qe: 0x5601, nmps: 1, nlps: 1, switch: true },
     StateRow { qe: 0x3401, nmps: 2, nlps: 6, switch: false },
     StateRow { qe: 0x1801, nmps: 3, nlps: 9, switch: false },
@@ -68,6 +68,7 @@ const ROWS: [StateRow; 47] = [
 ];
 
 /// The row of a state (ISO/IEC 15444-1, Table C.2); `state` is below 47.
+#[inline]
 pub fn state_row(state: u8) -> StateRow
     requires { state < 47 }
     ensures { result ≡ row state }
