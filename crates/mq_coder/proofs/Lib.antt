@@ -1,0 +1,24 @@
+pub mod Arithmetic
+pub mod Behind
+pub mod Consumed
+pub mod EndedLemmas
+pub mod Ends
+pub mod Estimates
+pub mod Fed
+pub mod Final
+pub mod Flush
+pub mod Held
+pub mod Holding
+pub mod Inverts
+pub mod Lists
+pub mod Look
+pub mod MarkLemmas
+pub mod Marks
+pub mod Out
+pub mod Rows
+pub mod Stands
+pub mod Sums
+pub mod Symbols
+pub mod Turns
+mod Vectors
+pub mod Widths

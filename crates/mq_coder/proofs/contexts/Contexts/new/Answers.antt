@@ -1,0 +1,7 @@
+use Rattle.std.proofs.Common.{refl}
+use Rattle.mq_coder.specs.States.{start_contexts}
+use Rattle.mq_coder.proofs.contexts.Contexts.new.Goals as goal
+
+pub returns : goal.returns
+unfolding start_contexts
+returns c = refl

@@ -1,0 +1,15 @@
+use Rattle.std.proofs.Common.{sym, ◌∙◌, arith, refl}
+use Rattle.mq_coder.proofs.MarkLemmas.{marked, last_byte_take}
+use Rattle.mq_coder.proofs.encoder.Encoder.mark.Goals.{then-r-eq0, else-r-eq0}
+use Rattle.mq_coder.proofs.encoder.Encoder.mark.Goals as goal
+
+pub returns-clause-stands : goal.returns-clause-stands
+returns-clause-stands c = λ symbols stood.
+    let buffer = c.args.self.now.bytes.now in
+    let count = c.args.self.now.registers.count in
+    let filled = c.args.self.now.filled in
+    marked _ buffer c.args.self.now.contexts symbols stood filled
+    (elim c.if-r-eq0.branch [
+      | then-r-eq0 w ↦ w.last-is ∙ rw w.if-r-eq0.true refl
+      | else-r-eq0 w ↦ w.last-is ∙ sym (last_byte_take buffer count (omega arith) filled)
+    ])
