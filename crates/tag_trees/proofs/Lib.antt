@@ -1,0 +1,9 @@
+pub mod BitLemmas
+pub mod PackLemmas
+pub mod TakeLemmas
+pub mod NodeLemmas
+pub mod TreeLemmas
+pub mod PathLemmas
+pub mod TreePaths
+pub mod UptoLemmas
+pub mod LeastLemmas

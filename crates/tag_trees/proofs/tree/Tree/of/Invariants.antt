@@ -1,0 +1,7 @@
+use Rattle.std.proofs.Common.{◌≡◌, ℕ, ◌≤◌, take, false}
+use Rattle.tag_trees.specs.TagTree.{least}
+use Rattle.tag_trees.specs.TreeState.{Starts}
+use Rattle.tag_trees.proofs.tree.Tree.of.Given as goal
+
+abbrev pub invariant-loop-place : goal.invariant-loop-place
+invariant-loop-place l = Starts l.tree l.width l.height (take l.place l.values)
