@@ -24,6 +24,8 @@ mod bit_in;
 mod bit_out;
 mod fault;
 mod node;
+#[cfg(test)]
+mod tests;
 mod tree;
 mod width;
 

@@ -125,6 +125,7 @@ impl Tree {
         ensures written { (value : ℕ → ℕ) (earlier : List Writing) → IsWritten self.old value earlier →
             IsWritten self.new value (earlier ++ (record { column = x; row = y; threshold = threshold }) ∷ []) }
         ensures few { (value : ℕ → ℕ) (earlier : List Writing) → IsWritten self.old value earlier → length out.new ≤ length out.old + (threshold + 3) }
+        ensures most { length out.new ≤ length out.old + 99 }
     {
         let leaf = 4 * y as usize + x as usize;
         let middle = 16 + (2 * (y as usize / 2) + x as usize / 2);
