@@ -1,12 +1,12 @@
 -- A new tree, and the writer's numbering.
-use Rattle.std.proofs.Common.{◌≡◌, ℕ, suc, zero, ◌+◌, ◌-◌, ◌*◌, ◌/◌, ◌%◌, ◌<◌, ◌≤◌, min, Bool, true, false, List, [], ◌∷◌, ◌++◌, length, get_or, take, refl, sym, ap, subst, ◌∙◌, inl, inr, arith, eqb, ltb}
-use Rattle.std.specs.Prelude.{◌⊎◌, ◌==◌, ◌||◌, max, if◌then◌else◌, replicate}
+use Rattle.std.proofs.Common.{◌≡◌, ℕ, suc, zero, ◌+◌, ◌/◌, ◌%◌, ◌<◌, ◌≤◌, min, Bool, true, false, List, [], ◌∷◌, ◌++◌, length, get_or, take, refl, sym, ap, subst, ◌∙◌, arith, eqb}
+use Rattle.std.specs.Prelude.{◌==◌, ◌||◌, max, if◌then◌else◌, replicate}
 use Rattle.std.proofs.Math.Nat.{mod-lt}
 use Rattle.std.proofs.lemmas.List.{take_more, take_all, length-take-le}
-use Rattle.std.proofs.lemmas.Bool.{cases_eq, eq-eqb, ne_eqb, eqb-true}
-use Rattle.tag_trees.specs.TagTree.{Writing, leaf_node, middle_node, top_node, levels_above, path_of, is_among, largest, Ascends, IsNumbering, least_from, least}
+use Rattle.std.proofs.lemmas.Bool.{eq-eqb, ne_eqb, eqb-true}
+use Rattle.tag_trees.specs.TagTree.{leaf_node, middle_node, levels_above, path_of, is_among, largest, Ascends, IsNumbering, least_from, least}
 use Rattle.tag_trees.specs.NodeStep.{AllowsValue}
-use Rattle.tag_trees.specs.TreeState.{width_of, height_of, levels_of, node_of, bound_of, known_of, value_of, root_of, parent_of, above, NodeStands, BoundsStand, Stands, Allows, IsWritten, Starts}
+use Rattle.tag_trees.specs.TreeState.{width_of, height_of, levels_of, bound_of, known_of, above, BoundsStand, IsWritten, Starts}
 use Rattle.tag_trees.specs.declared.tree.Tree.{Tree}
 use Rattle.tag_trees.specs.declared.node.Node.{Node}
 use Rattle.tag_trees.proofs.TreePaths.{numbering_along}
@@ -70,7 +70,7 @@ or_false : (b : Bool) → (b || false) ≡ true → b ≡ true
 or_false true h = refl
 or_false false h = h
 
-or_true : (b : Bool) → (b || true) ≡ true
+pub or_true : (b : Bool) → (b || true) ≡ true
 or_true true = refl
 or_true false = refl
 

@@ -7,3 +7,4 @@ pub mod PathLemmas
 pub mod TreePaths
 pub mod UptoLemmas
 pub mod LeastLemmas
+pub mod ReaderLemmas

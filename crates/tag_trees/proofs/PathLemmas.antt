@@ -1,11 +1,11 @@
 -- The nodes of a path, one after the other.
-use Rattle.std.proofs.Common.{◌≡◌, ℕ, suc, zero, ◌+◌, ◌-◌, ◌<◌, ◌≤◌, min, Bool, true, false, List, [], ◌∷◌, ◌++◌, length, refl, sym, ap, subst, ◌∙◌, inl, inr, arith, append_assoc}
-use Rattle.std.specs.Prelude.{◌⊎◌, ◌==◌, max, if◌then◌else◌}
+use Rattle.std.proofs.Common.{◌≡◌, ℕ, ◌≤◌, min, Bool, List, [], ◌∷◌, ◌++◌, refl, sym, ap, ◌∙◌, inl, inr, append_assoc}
+use Rattle.std.specs.Prelude.{◌⊎◌, max}
 use Rattle.tag_trees.specs.TagTree.{node_bits, path_bits, Ascends}
 use Rattle.tag_trees.specs.NodeStep.{RunsOut}
-use Rattle.tag_trees.specs.TreeState.{bound_of, known_of, value_of, root_of, parent_of, above, BoundsStand, Allows, NodeStep, bits_of_step}
+use Rattle.tag_trees.specs.TreeState.{bound_of, known_of, root_of, parent_of, above, BoundsStand, Allows, NodeStep, bits_of_step}
 use Rattle.tag_trees.specs.declared.tree.Tree.{Tree}
-use Rattle.tag_trees.proofs.TreeLemmas.{Before, raise, raise_other, above_child, above_root, stands_after, earlier_allows, bits_are, reads_back, ends_not, child_before}
+use Rattle.tag_trees.proofs.TreeLemmas.{Before, raise, raise_other, above_child, stands_after, earlier_allows, bits_are, reads_back, ends_not, child_before}
 
 -- steps along a path, and their bits
 abbrev pub Steps : ℕ → Tree → ℕ → List ℕ → Tree → List Bool → Type 0

@@ -1,16 +1,15 @@
 -- What a reader of bits has opened.
-use Rattle.std.proofs.Common.{◌≡◌, ℕ, suc, zero, ◌+◌, ◌-◌, ◌*◌, ◌/◌, ◌%◌, ◌^◌, ◌<◌, ◌≤◌, min, Bool, true, false, List, [], ◌∷◌, ◌++◌, length, take, drop, get_or, refl, sym, ap, ◌∙◌, inl, inr, arith, append_assoc, length-append, add-one, eqb, leb, ltb, Ok}
-use Rattle.std.specs.Prelude.{◌==◌, ◌⊎◌, nat_lt}
+use Rattle.std.proofs.Common.{◌≡◌, ℕ, suc, zero, ◌+◌, ◌-◌, ◌*◌, ◌/◌, ◌%◌, ◌^◌, ◌<◌, ◌≤◌, Bool, true, false, List, [], ◌∷◌, ◌++◌, length, take, drop, get_or, refl, sym, ap, ◌∙◌, inl, inr, arith, append_assoc, length-append, add-one, ltb}
+use Rattle.std.specs.Prelude.{◌==◌, ◌⊎◌}
 use Rattle.std.proofs.lemmas.Bool.{leb-false, ne_eqb, eq-eqb, lt-leb, lt-ltb, le-ltb, cases_lt, cases_eq}
 use Rattle.std.proofs.lemmas.Bool.Decides.{eqb_tells}
-use Rattle.std.proofs.lemmas.List.{append-nil, take_at, length-take, length-take-le, take_more, drop_more, drop_all, take-take, take_all, take-append-drop, drop-append-le, length-drop, get_or-take, get_or-append_right}
-use Rattle.std.proofs.Math.Nat.{pow-suc, pow-succ', div-div-eq-div-mul}
-use Rattle.tag_trees.specs.Bits.{bit_value, number, width_behind, useful, IsStuffed, ends_in_ff}
-use Rattle.tag_trees.specs.Stuffing.{Closes, Stuffs, is_broken, supply_from, supply, fault_from, fault_of, place_from, place_of}
-use Rattle.tag_trees.specs.BitState.{BitSource, Opens, opened_bits, source_of}
-use Rattle.tag_trees.specs.declared.fault.BitFault.{BitFault}
+use Rattle.std.proofs.lemmas.List.{append-nil, take_at, length-take-le, take_more, drop_more, drop_all, take-take, take-append-drop, length-drop, get_or-take, get_or-append_right}
+use Rattle.std.proofs.Math.Nat.{pow-succ', div-div-eq-div-mul}
+use Rattle.tag_trees.specs.Bits.{number, width_behind, useful, IsStuffed, ends_in_ff}
+use Rattle.tag_trees.specs.Stuffing.{Closes, Stuffs, is_broken, supply_from, fault_from, fault_of, place_from, place_of}
+use Rattle.tag_trees.specs.BitState.{Opens, opened_bits}
 use Rattle.tag_trees.specs.declared.fault.BitFault.TheVariants.{OutOfBits, StuffedBitSet}
-use Rattle.tag_trees.proofs.BitLemmas.{number-length, useful-append, useful-push, useful-length, ends-push, ends-append, stuffed-push, stuffed-split, seven_le, width_le}
+use Rattle.tag_trees.proofs.BitLemmas.{number-length, useful-append, useful-push, useful-length, ends-push, stuffed-push, stuffed-split, width_le}
 
 -- the bit of n above its low r bits
 abbrev pub bit_above : ℕ → ℕ → Bool

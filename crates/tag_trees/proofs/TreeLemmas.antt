@@ -1,11 +1,11 @@
 -- One node's step within a tree.
-use Rattle.std.proofs.Common.{◌≡◌, ℕ, suc, zero, ◌+◌, ◌-◌, ◌*◌, ◌/◌, ◌%◌, ◌<◌, ◌≤◌, min, Bool, true, false, List, [], ◌∷◌, ◌++◌, length, refl, sym, ap, subst, ◌∙◌, inl, inr, arith, append_assoc, eqb, ltb}
-use Rattle.std.specs.Prelude.{◌⊎◌, ◌==◌, max, nat_lt, replicate, if◌then◌else◌}
-use Rattle.std.proofs.lemmas.Bool.{eq-eqb, ne_eqb, cases_eq, lt-ltb, le-ltb}
+use Rattle.std.proofs.Common.{◌≡◌, ℕ, ◌≤◌, min, Bool, true, List, ◌++◌, refl, sym, ap, subst, ◌∙◌, inl, inr}
+use Rattle.std.specs.Prelude.{◌⊎◌, ◌==◌, max, if◌then◌else◌}
+use Rattle.std.proofs.lemmas.Bool.{eq-eqb, ne_eqb, cases_eq}
 use Rattle.std.proofs.lemmas.Bool.Decides.{eqb_tells}
-use Rattle.tag_trees.specs.TagTree.{Writing, leaf_node, middle_node, top_node, levels_above, path_of, is_among, largest, node_bits, path_bits, bits_of_writing, Ascends, IsNumbering}
-use Rattle.tag_trees.specs.NodeStep.{AllowsValue, IsStep, step_bits, RunsOut}
-use Rattle.tag_trees.specs.TreeState.{width_of, height_of, levels_of, node_of, bound_of, known_of, value_of, root_of, parent_of, above, NodeStands, BoundsStand, Stands, Allows, IsWritten, NodeStep, bits_of_step}
+use Rattle.tag_trees.specs.TagTree.{node_bits}
+use Rattle.tag_trees.specs.NodeStep.{AllowsValue, RunsOut}
+use Rattle.tag_trees.specs.TreeState.{bound_of, known_of, root_of, parent_of, above, NodeStands, BoundsStand, Allows, NodeStep, bits_of_step}
 use Rattle.tag_trees.specs.declared.tree.Tree.{Tree}
 use Rattle.tag_trees.specs.declared.node.Node.{Node}
 use Rattle.tag_trees.proofs.NodeLemmas.{Reaches, step_reaches, stands_step, stands_below, step_rises, allowed_before, allowed_from, step_bits_are, node_reads, node_ends}

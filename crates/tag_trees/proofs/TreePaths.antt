@@ -1,15 +1,15 @@
 -- The paths of a tag tree, and what a whole writing or reading does.
-use Rattle.std.proofs.Common.{◌≡◌, ℕ, suc, zero, ◌+◌, ◌-◌, ◌*◌, ◌/◌, ◌%◌, ◌<◌, ◌≤◌, min, Bool, true, false, List, [], ◌∷◌, ◌++◌, length, refl, sym, ap, subst, ◌∙◌, inl, inr, arith, append_assoc, leb, ltb, eqb, length-append}
-use Rattle.std.specs.Prelude.{◌⊎◌, ◌==◌, ◌||◌, max, if◌then◌else◌, replicate, nat_lt}
-use Rattle.std.proofs.lemmas.Bool.{lt-ltb, le-ltb, leb-true, leb-false, cases_lt, cases_eq}
+use Rattle.std.proofs.Common.{◌≡◌, ℕ, suc, zero, ◌+◌, ◌-◌, ◌*◌, ◌/◌, ◌%◌, ◌<◌, ◌≤◌, min, Bool, true, false, List, [], ◌∷◌, ◌++◌, length, refl, sym, ap, subst, ◌∙◌, inl, inr, arith, leb, ltb, length-append}
+use Rattle.std.specs.Prelude.{◌==◌, ◌||◌, max, if◌then◌else◌, replicate}
+use Rattle.std.proofs.lemmas.Bool.{lt-ltb, le-ltb, leb-true, cases_eq}
 use Rattle.std.proofs.lemmas.List.{length-replicate}
-use Rattle.tag_trees.specs.TagTree.{Writing, leaf_node, middle_node, top_node, levels_above, path_of, is_among, largest, node_bits, path_bits, bits_of_writing, Ascends, IsNumbering}
+use Rattle.tag_trees.specs.TagTree.{Writing, leaf_node, middle_node, levels_above, path_of, is_among, largest, node_bits, path_bits, bits_of_writing, Ascends, IsNumbering}
 use Rattle.tag_trees.specs.NodeStep.{AllowsValue}
-use Rattle.tag_trees.specs.TreeState.{width_of, height_of, levels_of, node_of, bound_of, known_of, value_of, root_of, parent_of, above, BoundsStand, Stands, Allows, IsWritten, NodeStep, bits_of_step}
+use Rattle.tag_trees.specs.TreeState.{width_of, height_of, levels_of, bound_of, known_of, value_of, root_of, parent_of, above, BoundsStand, Stands, Allows, IsWritten, NodeStep, bits_of_step}
 use Rattle.tag_trees.specs.declared.tree.Tree.{Tree}
 use Rattle.tag_trees.specs.declared.node.Node.{Node}
 use Rattle.tag_trees.proofs.TreeLemmas.{Before, raise, above_root, above_child, from_allowed, later_allows, child_before}
-use Rattle.tag_trees.proofs.PathLemmas.{Steps, Fails, NoneIs, Hangs, raise_all, path_stands, path_earlier, path_bits_are, path_reads, path_ends}
+use Rattle.tag_trees.proofs.PathLemmas.{Steps, Fails, Hangs, raise_all, path_stands, path_earlier, path_bits_are, path_reads, path_ends}
 
 -- the leaf lies in a tree of so many levels
 abbrev pub Inside : ℕ → ℕ → ℕ → Type 0
@@ -39,7 +39,7 @@ root_before levels tree s t node e stands = record {
   apart = inl e;
 }
 
-parent_leaf : (x y : ℕ) → x ≤ 3 → y ≤ 3 → parent_of (leaf_node x y) ≡ middle_node x y
+pub parent_leaf : (x y : ℕ) → x ≤ 3 → y ≤ 3 → parent_of (leaf_node x y) ≡ middle_node x y
 unfolding parent_of
 parent_leaf x y h k =
     let l : ltb (4 * y + x) 16 ≡ true = lt-ltb (4 * y + x) 16 (omega arith) in
@@ -47,7 +47,7 @@ parent_leaf x y h k =
     let m : (4 * y + x) % 4 ≡ x = omega arith in
     rw (l, d, m) refl
 
-parent_middle : (x y : ℕ) → parent_of (middle_node x y) ≡ 20
+pub parent_middle : (x y : ℕ) → parent_of (middle_node x y) ≡ 20
 unfolding parent_of
 parent_middle x y = let l : ltb (16 + (2 * (y / 2) + x / 2)) 16 ≡ false = le-ltb (16 + (2 * (y / 2) + x / 2)) 16 (omega arith) in rw l refl
 

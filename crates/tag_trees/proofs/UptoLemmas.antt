@@ -1,12 +1,12 @@
 -- A whole writing of a leaf, and a whole reading.
-use Rattle.std.proofs.Common.{◌≡◌, ℕ, suc, zero, ◌+◌, ◌-◌, ◌<◌, ◌≤◌, Bool, true, false, List, [], ◌∷◌, ◌++◌, length, refl, sym, ap, subst, ◌∙◌, inl, inr, arith, append_assoc, length-append, leb, ltb, Ok, Err, Result}
-use Rattle.std.specs.Prelude.{◌⊎◌, ◌&&◌, max, nat_lt, if◌then◌else◌, IfOk, IfErr, OnOk, IsOkAnd}
+use Rattle.std.proofs.Common.{◌≡◌, ℕ, ◌+◌, ◌<◌, ◌≤◌, Bool, true, false, List, [], ◌∷◌, ◌++◌, length, refl, sym, ap, subst, ◌∙◌, inl, inr, arith, append_assoc, length-append, leb, ltb, Ok, Err, Result}
+use Rattle.std.specs.Prelude.{◌&&◌, max, nat_lt, if◌then◌else◌, IfOk, IfErr, OnOk, IsOkAnd}
 use Rattle.std.proofs.lemmas.List.{append-nil}
-use Rattle.std.proofs.lemmas.Bool.{lt-ltb, le-ltb, cases_lt}
+use Rattle.std.proofs.lemmas.Bool.{le-ltb}
 use Rattle.tag_trees.specs.BitState.{BitSource, Took}
-use Rattle.tag_trees.specs.TagTree.{Writing, leaf_node, middle_node, top_node, levels_above, path_of, bits_of_writing, IsNumbering}
+use Rattle.tag_trees.specs.TagTree.{Writing, leaf_node, middle_node, levels_above, path_of, bits_of_writing, IsNumbering}
 use Rattle.tag_trees.specs.NodeStep.{AllowsValue, RunsOut}
-use Rattle.tag_trees.specs.TreeState.{width_of, height_of, levels_of, node_of, bound_of, known_of, value_of, Stands, Allows, IsWritten, NodeStep, bits_of_step}
+use Rattle.tag_trees.specs.TreeState.{width_of, height_of, levels_of, bound_of, known_of, Stands, Allows, IsWritten, NodeStep, bits_of_step}
 use Rattle.std.specs.Prelude.{MatchResult}
 use Rattle.tag_trees.specs.declared.tree.Tree.{Tree}
 use Rattle.tag_trees.specs.declared.fault.BitFault.{BitFault}

@@ -1,6 +1,6 @@
 -- Tag trees (ISO/IEC 15444-1, B.10.2) of at most 4 by 4 leaves: their nodes, the bits of a writing as a
 -- function of the earlier writings, and the writer's numbering.
-use Rattle.std.specs.Prelude.{◌≡◌, ℕ, suc, zero, ◌+◌, ◌-◌, ◌*◌, ◌/◌, ◌%◌, ◌<◌, ◌≤◌, ◌==◌, ◌||◌, min, max, nat_lt, nat_le, Bool, true, false, if◌then◌else◌, List, [], ◌∷◌, ◌++◌, length, replicate}
+use Rattle.std.specs.Prelude.{ℕ, suc, zero, ◌+◌, ◌-◌, ◌*◌, ◌/◌, ◌%◌, ◌<◌, ◌≤◌, ◌==◌, ◌||◌, min, max, nat_lt, nat_le, Bool, true, false, if◌then◌else◌, List, [], ◌∷◌, ◌++◌, replicate}
 
 -- Nodes are numbered. The leaf of a column and a row; the node of the level above, over 2 by 2 leaves; and
 -- the one over 2 by 2 of these.

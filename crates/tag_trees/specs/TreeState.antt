@@ -1,5 +1,5 @@
 -- What a tag tree of bounds stands for.
-use Rattle.std.specs.Prelude.{◌≡◌, ℕ, suc, zero, ◌+◌, ◌-◌, ◌*◌, ◌/◌, ◌%◌, ◌<◌, ◌≤◌, ◌==◌, min, max, nat_lt, Bool, true, false, if◌then◌else◌, List, [], ◌∷◌, ◌++◌, length, get_or, replicate}
+use Rattle.std.specs.Prelude.{◌≡◌, ℕ, suc, zero, ◌+◌, ◌*◌, ◌/◌, ◌%◌, ◌<◌, ◌≤◌, ◌==◌, max, nat_lt, Bool, true, false, if◌then◌else◌, List, get_or}
 use Rattle.tag_trees.specs.TagTree.{Writing, levels_above, largest, least, IsNumbering}
 use Rattle.tag_trees.specs.declared.tree.Tree.{Tree}
 use Rattle.tag_trees.specs.declared.node.Node.{Node}

@@ -1,4 +1,4 @@
-use Rattle.std.proofs.Common.{◌≡◌, ℕ, ◌<◌, ◌≤◌, ◌+◌, length, take, get_or, sym, ap, ◌∙◌, arith, Ok, Err, Result, refl}
+use Rattle.std.proofs.Common.{◌≡◌, ℕ, ◌<◌, ◌≤◌, length, take, sym, ap, ◌∙◌, arith, Ok, Result, refl}
 use Rattle.std.proofs.lemmas.Bool.{eq-eqb, le-leb}
 use Rattle.std.specs.Prelude.{◌==◌, true}
 use Rattle.tag_trees.specs.Stuffing.{Stuffs, fault_of, is_broken}

@@ -1,6 +1,5 @@
 use Rattle.std.proofs.Common.{refl, inl, arith}
 use Rattle.tag_trees.specs.Bits.{number, useful, IsStuffed, ends_in_ff}
-use Rattle.tag_trees.specs.Stuffing.{supply_from}
 use Rattle.tag_trees.proofs.bit_in.BitIn.new.Goals as goal
 
 pub invariant_of-result : goal.invariant_of-result

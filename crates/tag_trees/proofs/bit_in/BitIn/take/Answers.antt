@@ -1,7 +1,6 @@
-use Rattle.std.proofs.Common.{◌≡◌, ℕ, ◌<◌, ◌≤◌, ◌+◌, ◌-◌, Bool, true, false, length, inl, inr, get_or, List, [], ◌∷◌, ◌++◌, refl, sym, ap, ◌∙◌, arith, eqb, leb}
+use Rattle.std.proofs.Common.{◌≡◌, ℕ, ◌<◌, ◌≤◌, ◌+◌, ◌-◌, Bool, true, false, length, inl, inr, List, [], ◌∷◌, ◌++◌, refl, sym, ap, ◌∙◌, arith}
 use Rattle.std.specs.Prelude.{◌==◌, ◌⊎◌}
 use Rattle.std.proofs.lemmas.Bool.{eq-eqb, ne_eqb, le-leb, lt-leb}
-use Rattle.tag_trees.specs.Bits.{width_behind}
 use Rattle.tag_trees.specs.Stuffing.{is_broken, fault_of}
 use Rattle.tag_trees.specs.BitState.{BitSource}
 use Rattle.tag_trees.proofs.BitLemmas.{seven_le}

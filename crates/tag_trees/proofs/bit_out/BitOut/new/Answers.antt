@@ -1,7 +1,6 @@
 use Rattle.std.proofs.Common.{refl}
 use Rattle.tag_trees.specs.Bits.{number, useful}
-use Rattle.tag_trees.proofs.BitLemmas.{number-length}
-use Rattle.tag_trees.proofs.PackLemmas.{keeps_none, keeps_more}
+use Rattle.tag_trees.proofs.PackLemmas.{keeps_none}
 use Rattle.tag_trees.proofs.bit_out.BitOut.new.Goals as goal
 
 pub invariant_of-result : goal.invariant_of-result

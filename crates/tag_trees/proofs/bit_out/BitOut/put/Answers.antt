@@ -1,9 +1,9 @@
-use Rattle.std.proofs.Common.{◌≡◌, ℕ, ◌+◌, ◌*◌, ◌<◌, ◌≤◌, Bool, true, false, List, [], ◌∷◌, ◌++◌, length, refl, sym, ap, ◌∙◌, arith, append_assoc, length-append}
+use Rattle.std.proofs.Common.{◌≡◌, ℕ, ◌+◌, ◌*◌, ◌<◌, ◌≤◌, Bool, true, false, List, [], ◌∷◌, ◌++◌, length, sym, ap, ◌∙◌, arith, append_assoc, length-append}
 use Rattle.std.proofs.lemmas.List.{append-nil}
 use mir.Val.{bool_byte}
-use Rattle.tag_trees.specs.Bits.{number, useful, bit_value, width_behind, ends_in_ff}
+use Rattle.tag_trees.specs.Bits.{number, useful, bit_value}
 use Rattle.tag_trees.specs.BitState.{Keeps}
-use Rattle.tag_trees.proofs.BitLemmas.{number-length, number-push, useful-push, useful-length}
+use Rattle.tag_trees.proofs.BitLemmas.{number-length, number-push, useful-push}
 use Rattle.tag_trees.proofs.PackLemmas.{keeps_more, keeps_whole, room_for_byte}
 use Rattle.tag_trees.proofs.bit_out.BitOut.put.Goals as goal
 

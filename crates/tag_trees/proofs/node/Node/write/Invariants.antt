@@ -1,5 +1,4 @@
 use Rattle.std.proofs.Common.{◌-◌}
-use Rattle.std.specs.Prelude.{max}
 use Rattle.tag_trees.specs.NodeStep.{Writes}
 use Rattle.tag_trees.proofs.node.Node.write.Given as goal
 

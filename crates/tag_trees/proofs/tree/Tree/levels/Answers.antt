@@ -2,7 +2,6 @@ use Rattle.std.proofs.Common.{◌≡◌, refl, leb, true, false, arith}
 use Rattle.std.specs.Prelude.{max}
 use Rattle.std.proofs.lemmas.Bool.{le-leb, lt-leb}
 use Rattle.tag_trees.specs.TagTree.{levels_above}
-use Rattle.tag_trees.proofs.TreePaths.{Inside, writes_on}
 use Rattle.tag_trees.proofs.tree.Tree.levels.Goals as goal
 
 pub returns-then-side-le1 : goal.returns-then-side-le1

@@ -1,5 +1,4 @@
-use Rattle.std.proofs.Common.{◌≡◌, ℕ, ◌≤◌, take, false}
-use Rattle.tag_trees.specs.TagTree.{least}
+use Rattle.std.proofs.Common.{take}
 use Rattle.tag_trees.specs.TreeState.{Starts}
 use Rattle.tag_trees.proofs.tree.Tree.of.Given as goal
 

@@ -1,4 +1,4 @@
-use Rattle.std.proofs.Common.{sym, ◌∙◌, arith, refl, ℕ, false}
+use Rattle.std.proofs.Common.{refl, false}
 use Rattle.tag_trees.proofs.LeastLemmas.{fresh_stands, same_everywhere}
 use Rattle.tag_trees.specs.declared.node.Node.{Node}
 use Rattle.tag_trees.proofs.tree.Tree.unread.Goals as goal
