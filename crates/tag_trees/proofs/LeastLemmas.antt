@@ -66,7 +66,7 @@ among_top : (x y : ℕ) → is_among (path_of 2 x y) 20 ≡ true
 unfolding path_of
 among_top x y = refl
 
-or_false : (b : Bool) → (b || false) ≡ true → b ≡ true
+pub or_false : (b : Bool) → (b || false) ≡ true → b ≡ true
 or_false true h = refl
 or_false false h = h
 
@@ -98,7 +98,7 @@ rising_by (suc (suc levels)) width values x y small hx hy = (
   (least_le width 0 values (middle_node x y) (leaf_node x y) (λ k h. among_middle (k % width) (k / width) x y (small k) hx hy h), tt),
 )
 
-small_column : (width k : ℕ) → 0 < width → width ≤ 4 → k % width ≤ 3
+pub small_column : (width k : ℕ) → 0 < width → width ≤ 4 → k % width ≤ 3
 small_column width k p h = let r : k % width < width = mod-lt k p in omega arith
 
 pub least_rises : (width height : ℕ) (values : List ℕ) → width ≤ 4 → height ≤ 4 → IsNumbering width height (least width values)

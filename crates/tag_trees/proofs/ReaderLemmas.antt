@@ -1,15 +1,17 @@
 -- What a reader of headers composes: a numbering that a tree allows, thresholds asked one after the other,
 -- and the bits of a header's bytes.
-use Rattle.std.proofs.Common.{◌≡◌, ℕ, suc, zero, ◌+◌, ◌-◌, ◌<◌, ◌≤◌, min, Bool, true, false, List, [], ◌∷◌, ◌++◌, refl, sym, ap, ◌∙◌, inl, inr, arith, append_assoc, ltb, eqb}
-use Rattle.std.specs.Prelude.{max, nat_lt, if◌then◌else◌, replicate}
-use Rattle.std.proofs.lemmas.Bool.{ltb-true, ltb-false, lt-ltb, le-ltb, cases_lt, eq-eqb}
+use Rattle.std.proofs.Common.{◌≡◌, ℕ, suc, zero, ◌+◌, ◌-◌, ◌*◌, ◌/◌, ◌%◌, ◌<◌, ◌≤◌, min, Bool, true, false, List, [], ◌∷◌, ◌++◌, length, get_or, refl, sym, ap, ◌∙◌, inl, inr, arith, append_assoc, ltb, eqb}
+use Rattle.std.specs.Prelude.{◌||◌, max, nat_lt, if◌then◌else◌, replicate}
+use Rattle.std.proofs.lemmas.Bool.{cases_Bool, eqb-true, ltb-true, ltb-false, lt-ltb, le-ltb, cases_lt, eq-eqb, ne_eqb}
 use Rattle.std.proofs.lemmas.List.{append-nil, replicate-append-replicate}
-use Rattle.tag_trees.specs.TagTree.{Writing, leaf_node, middle_node, levels_above, path_of, is_among, largest, node_bits, path_bits, bits_of_writing, Ascends, IsNumbering}
+use Rattle.tag_trees.specs.TagTree.{Writing, leaf_node, middle_node, levels_above, path_of, is_among, largest, node_bits, path_bits, bits_of_writing, Ascends, IsNumbering, least_from, least}
 use Rattle.tag_trees.specs.NodeStep.{AllowsValue}
 use Rattle.tag_trees.specs.TreeState.{width_of, height_of, levels_of, bound_of, known_of, root_of, parent_of, above, NodeStands, BoundsStand, Stands, Allows}
 use Rattle.tag_trees.specs.declared.tree.Tree.{Tree}
 use Rattle.tag_trees.proofs.TreeLemmas.{above_child}
-use Rattle.tag_trees.proofs.LeastLemmas.{or_true}
+use Rattle.tag_trees.proofs.LeastLemmas.{or_true, or_false, small_column}
+use Rattle.std.proofs.lemmas.Nat.{div-mul-add, mod-mul-add}
+use Rattle.std.proofs.Math.Nat.{div-add-mod', mul-le-mul_right, mul_comm}
 use Rattle.tag_trees.proofs.TreePaths.{Inside, inside, parent_leaf, parent_middle, largest_push}
 
 -- a value that a node allows, no smaller than this one
@@ -287,3 +289,59 @@ pub stands_split : (tree : Tree) (earlier : List Writing) (x y t u : ℕ) → t 
     → Stands tree (earlier ++ record { column = x; row = y; threshold = t } ∷ [] ++ record { column = x; row = y; threshold = u } ∷ [])
     → Stands tree (earlier ++ record { column = x; row = y; threshold = u } ∷ [])
 stands_split tree earlier x y t u h stands n = rw (sym (largest_split (levels_of tree) earlier x y t u n h)) (stands n)
+
+-- only one place is that of a leaf
+among_leaf : (c r x y : ℕ) → c ≤ 3 → x ≤ 3 → y ≤ 3 → is_among (path_of 2 c r) (leaf_node x y) ≡ true → (c ≡ x) × (r ≡ y)
+unfolding path_of
+among_leaf c r x y hc hx hy h =
+    let t : eqb 20 (leaf_node x y) ≡ false = ne_eqb 20 (leaf_node x y) (λ k. omega arith) in
+    let m : eqb (middle_node c r) (leaf_node x y) ≡ false = ne_eqb (middle_node c r) (leaf_node x y) (λ k. omega arith) in
+    let h' = rw (t, m) at h in
+    let e = eqb-true (leaf_node c r) (leaf_node x y) (or_false (eqb (leaf_node c r) (leaf_node x y)) h') in
+    (omega arith, omega arith)
+
+place_of_leaf : (width k x y : ℕ) → k % width ≡ x → k / width ≡ y → k ≡ y * width + x
+place_of_leaf width k x y c r = let e = div-add-mod' k width in let e' = rw (c, r) at e in sym e'
+
+leaf_apart : (width k x y : ℕ) → k % width ≤ 3 → x ≤ 3 → y ≤ 3 → (k ≡ y * width + x → ⊥) → is_among (path_of 2 (k % width) (k / width)) (leaf_node x y) ≡ false
+leaf_apart width k x y hk hx hy ne = elim (cases_Bool (is_among (path_of 2 (k % width) (k / width)) (leaf_node x y))) [
+  | inl t ↦ absurd (let b = among_leaf (k % width) (k / width) x y hk hx hy t in ne (place_of_leaf width k x y b.0 b.1))
+  | inr f ↦ f
+]
+
+leaf_there : (width k x y : ℕ) → x < width → k ≡ y * width + x → is_among (path_of 2 (k % width) (k / width)) (leaf_node x y) ≡ true
+unfolding path_of
+leaf_there width k x y h e =
+    let c : k % width ≡ x = ap (λ n. n % width) e ∙ mod-mul-add y width x h in
+    let r : k / width ≡ y = ap (λ n. n / width) e ∙ div-mul-add y width x h in
+    let l : eqb (leaf_node (k % width) (k / width)) (leaf_node x y) ≡ true = eq-eqb (leaf_node (k % width) (k / width)) (leaf_node x y) (ap (λ n. leaf_node n (k / width)) c ∙ ap (leaf_node x) r) in
+    rw l (ap (λ b. eqb 20 (leaf_node x y) || b) (or_true (eqb (middle_node (k % width) (k / width)) (leaf_node x y))) ∙ or_true (eqb 20 (leaf_node x y)))
+
+-- behind a leaf's place nothing is its own
+least_past : (width place : ℕ) (values : List ℕ) (x y : ℕ) → x < width → width ≤ 4 → y ≤ 3 → y * width + x < place → least_from width place values (leaf_node x y) ≡ 255
+unfolding least_from
+least_past width place [] x y h w hy l = refl
+least_past width place (v ∷ values) x y h w hy l =
+    let a = leaf_apart width place x y (small_column width place (omega arith) w) (omega arith) hy (λ e. omega arith) in
+    rw a (least_past width (place + 1) values x y h w hy (omega arith))
+
+least_at : (width place : ℕ) (values : List ℕ) (x y i : ℕ) → x < width → width ≤ 4 → y ≤ 3 → y * width + x ≡ place + i → i < length values → get_or values i 0 ≤ 255
+    → least_from width place values (leaf_node x y) ≡ get_or values i 0
+unfolding least_from
+least_at width place [] x y i h w hy e l m = absurd (omega arith)
+least_at width place (v ∷ values) x y zero h w hy e l m =
+    let a = leaf_there width place x y h (omega arith) in
+    let p = least_past width (place + 1) values x y h w hy (omega arith) in
+    rw (a, p) (omega arith)
+least_at width place (v ∷ values) x y (suc i) h w hy e l m =
+    let a = leaf_apart width place x y (small_column width place (omega arith) w) (omega arith) hy (λ k. omega arith) in
+    rw a (least_at width (place + 1) values x y i h w hy (omega arith) (omega arith) m)
+
+-- The writer's numbering has at each leaf the leaf's own value.
+pub least_leaf : (width height : ℕ) (values : List ℕ) (x y : ℕ) → x < width → y < height → width ≤ 4 → height ≤ 4 → length values ≡ width * height
+    → get_or values (y * width + x) 0 ≤ 255 → least width values (leaf_node x y) ≡ get_or values (y * width + x) 0
+least_leaf width height values x y c r w h l m =
+    let rows : (y + 1) * width ≤ height * width = mul-le-mul_right width (let k : y + 1 ≤ height = omega arith in k) in
+    let sum : (y + 1) * width ≡ y * width + width = omega arith in
+    let whole : height * width ≡ width * height = mul_comm height width in
+    least_at width 0 values x y (y * width + x) c w (omega arith) (omega arith) (omega arith) m

@@ -27,7 +27,7 @@ impl Tree {
     ghost use Rattle.tag_trees.specs.BitState.{Took};
     ghost use Rattle.tag_trees.specs.Stuffing.{fault_of};
 
-    /// A tree to write, of these sides in leaves, 1 to 4. Each leaf has its value, in raster order, and a
+    /// A tree to write, of these sides in leaves, at most 4. Each leaf has its value, in raster order, and a
     /// node above the leaves has the least value of those under it.
     pub fn of(width: u8, height: u8, values: &[u8]) -> Tree
         requires width { width ≤ 4 }
@@ -48,7 +48,7 @@ impl Tree {
         tree
     }
 
-    /// A tree to read, of these sides in leaves, 1 to 4, of which nothing is known.
+    /// A tree to read, of these sides in leaves, at most 4, of which nothing is known.
     pub fn unread(width: u8, height: u8) -> Tree
         requires width { width ≤ 4 }
         requires height { height ≤ 4 }
@@ -172,6 +172,7 @@ impl Tree {
             IsNumbering (width_of self.old) (height_of self.old) value → Stands self.old earlier → OnOk result (Allows self.new value) →
             IfOk result (λ below. (below ≡ nat_lt (value (leaf_node x y)) threshold) × Allows self.old value
             × Took bits.old (bits_of_writing (levels_of self.old) value earlier (record { column = x; row = y; threshold = threshold })) bits.new) }
+        ensures same { bits.new.bytes ≡ bits.old.bytes }
         ensures fault { IfErr result (λ fault. (fault ≡ fault_of bits.old.bytes) × (bits.new.ahead ≡ [])) }
     {
         let leaf = 4 * y as usize + x as usize;
