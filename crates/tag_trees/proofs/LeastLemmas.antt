@@ -6,7 +6,7 @@ use Rattle.std.proofs.lemmas.List.{take_more, take_all, length-take-le}
 use Rattle.std.proofs.lemmas.Bool.{eq-eqb, ne_eqb, eqb-true}
 use Rattle.tag_trees.specs.TagTree.{leaf_node, middle_node, levels_above, path_of, is_among, largest, Ascends, IsNumbering, least_from, least}
 use Rattle.tag_trees.specs.NodeStep.{AllowsValue}
-use Rattle.tag_trees.specs.TreeState.{width_of, height_of, levels_of, bound_of, known_of, above, BoundsStand, IsWritten, Starts}
+use Rattle.tag_trees.specs.TreeState.{width_of, height_of, levels_of, bound_of, known_of, value_of, above, BoundsStand, IsWritten}
 use Rattle.tag_trees.specs.declared.tree.Tree.{Tree}
 use Rattle.tag_trees.specs.declared.node.Node.{Node}
 use Rattle.tag_trees.proofs.TreePaths.{numbering_along}
@@ -104,6 +104,14 @@ small_column width k p h = let r : k % width < width = mod-lt k p in omega arith
 pub least_rises : (width height : ℕ) (values : List ℕ) → width ≤ 4 → height ≤ 4 → IsNumbering width height (least width values)
 least_rises width height values w h column row c r =
     rising_by (levels_above width height) width values column row (λ k. small_column width k (omega arith) w) (omega arith) (omega arith)
+
+-- a new tree whose leaves have these values so far
+pub record Starts (tree : Tree) (width height : ℕ) (values : List ℕ) : Type 0 where
+  pub width_is : tree.width ≡ width
+  pub height_is : tree.height ≡ height
+  pub values_are : (node : ℕ) → value_of tree node ≡ least width values node
+  pub bounds : (node : ℕ) → bound_of tree node ≡ 0
+  pub unknown : (node : ℕ) → known_of tree node ≡ false
 
 -- a new tree to write
 pub started : (tree : Tree) (width height : ℕ) (values : List ℕ) → Starts tree width height values → width ≤ 4 → height ≤ 4 → IsWritten tree (least width values) []

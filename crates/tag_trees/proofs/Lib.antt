@@ -2,6 +2,7 @@ pub mod BitLemmas
 pub mod PackLemmas
 pub mod TakeLemmas
 pub mod NodeLemmas
+pub mod NodeLoops
 pub mod TreeLemmas
 pub mod PathLemmas
 pub mod TreePaths

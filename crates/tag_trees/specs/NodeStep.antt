@@ -1,5 +1,4 @@
 -- One node's part of a writing or a reading.
-use Rattle.tag_trees.specs.BitState.{BitSource, Took}
 use Rattle.std.specs.Prelude.{◌≡◌, ℕ, ◌+◌, ◌-◌, ◌<◌, ◌≤◌, max, Bool, true, false, if◌then◌else◌, List, [], ◌∷◌, ◌++◌, length, replicate}
 
 -- a node's value may be this
@@ -23,16 +22,3 @@ pub record RunsOut (ahead : List Bool) (from threshold : ℕ) (known : Bool) : T
   pub unknown : known ≡ false
   pub zeros : ahead ≡ replicate (length ahead) false
   pub short : from + length ahead < threshold
-
--- Within a node's writing: this bound is reached from the first one by as many zeros, which are put.
-pub record Writes (old new : List Bool) (from threshold value bound : ℕ) : Type 0 where
-  pub zeros : new ≡ old ++ replicate (bound - from) false
-  pub from_on : from ≤ bound
-  pub most : bound ≤ max from threshold
-  pub under : bound ≤ max from value
-
--- Within a node's reading: the zeros are taken.
-pub record Reads (old : BitSource) (new : BitSource) (from threshold bound : ℕ) : Type 0 where
-  pub took : Took old (replicate (bound - from) false) new
-  pub from_on : from ≤ bound
-  pub most : bound ≤ max from threshold

@@ -1,6 +1,6 @@
 -- What a tag tree of bounds stands for.
 use Rattle.std.specs.Prelude.{◌≡◌, ℕ, suc, zero, ◌+◌, ◌*◌, ◌/◌, ◌%◌, ◌<◌, ◌≤◌, ◌==◌, max, nat_lt, Bool, true, false, if◌then◌else◌, List, get_or}
-use Rattle.tag_trees.specs.TagTree.{Writing, levels_above, largest, least, IsNumbering}
+use Rattle.tag_trees.specs.TagTree.{Writing, levels_above, largest, IsNumbering}
 use Rattle.tag_trees.specs.declared.tree.Tree.{Tree}
 use Rattle.tag_trees.specs.declared.node.Node.{Node}
 use Rattle.tag_trees.specs.NodeStep.{AllowsValue, IsStep, step_bits}
@@ -78,11 +78,3 @@ pub record NodeStep (old : Tree) (node start threshold : ℕ) (new : Tree) : Typ
 -- its bits
 abbrev pub bits_of_step : Tree → ℕ → ℕ → Tree → List Bool
 bits_of_step old node start new = step_bits (max (bound_of old node) start) (known_of old node) (bound_of new node) (known_of new node)
-
--- a new tree whose leaves have these values so far
-pub record Starts (tree : Tree) (width height : ℕ) (values : List ℕ) : Type 0 where
-  pub width_is : tree.width ≡ width
-  pub height_is : tree.height ≡ height
-  pub values_are : (node : ℕ) → value_of tree node ≡ least width values node
-  pub bounds : (node : ℕ) → bound_of tree node ≡ 0
-  pub unknown : (node : ℕ) → known_of tree node ≡ false

@@ -1,5 +1,5 @@
 use Rattle.std.proofs.Common.{◌-◌}
-use Rattle.tag_trees.specs.NodeStep.{Reads}
+use Rattle.tag_trees.proofs.NodeLoops.{Reads}
 use Rattle.tag_trees.proofs.node.Node.read.Given as goal
 
 abbrev pub invariant-loop-bound : goal.invariant-loop-bound

@@ -1,5 +1,5 @@
 use Rattle.std.proofs.Common.{◌-◌}
-use Rattle.tag_trees.specs.NodeStep.{Writes}
+use Rattle.tag_trees.proofs.NodeLoops.{Writes}
 use Rattle.tag_trees.proofs.node.Node.write.Given as goal
 
 abbrev pub invariant-loop-bound : goal.invariant-loop-bound

@@ -1,5 +1,5 @@
 use Rattle.std.proofs.Common.{take}
-use Rattle.tag_trees.specs.TreeState.{Starts}
+use Rattle.tag_trees.proofs.LeastLemmas.{Starts}
 use Rattle.tag_trees.proofs.tree.Tree.of.Given as goal
 
 abbrev pub invariant-loop-place : goal.invariant-loop-place
