@@ -6,7 +6,7 @@ use Rattle.std.proofs.lemmas.Bool.Decides.{eqb_tells}
 use Rattle.std.proofs.lemmas.List.{append-nil, take_at, length-take-le, take_more, drop_more, drop_all, take-take, take-append-drop, length-drop, get_or-take, get_or-append_right}
 use Rattle.std.proofs.Math.Nat.{pow-succ', div-div-eq-div-mul}
 use Rattle.tag_trees.specs.Bits.{number, width_behind, useful, IsStuffed, ends_in_ff}
-use Rattle.tag_trees.specs.Stuffing.{Closes, Stuffs, is_broken, supply_from, fault_from, fault_of, place_from, place_of}
+use Rattle.tag_trees.specs.Stuffing.{Closes, Stuffs, is_broken, supply_from, supply, fault_from, fault_of, place_from, place_of}
 use Rattle.tag_trees.specs.BitState.{Opens, opened_bits}
 use Rattle.tag_trees.specs.declared.fault.BitFault.TheVariants.{OutOfBits, StuffedBitSet}
 use Rattle.tag_trees.proofs.BitLemmas.{number-length, useful-append, useful-push, useful-length, ends-push, stuffed-push, stuffed-split, width_le}
@@ -130,7 +130,7 @@ fault-append place a (x ∷ xs) ys s =
     let e : place + suc (length xs) ≡ place + 1 + length xs = omega arith in
     rw (stuffed_unbroken a x s.0, e) (fault-append (place + 1) (x == 255) xs ys s.1)
 
-supply-append : (a : Bool) (xs ys : List ℕ) → IsStuffed a xs → supply_from a (xs ++ ys) ≡ useful a xs ++ supply_from (ends_in_ff a xs) ys
+pub supply-append : (a : Bool) (xs ys : List ℕ) → IsStuffed a xs → supply_from a (xs ++ ys) ≡ useful a xs ++ supply_from (ends_in_ff a xs) ys
 unfolding supply_from IsStuffed ends_in_ff useful
 supply-append a [] ys s = refl
 supply-append a (x ∷ xs) ys s =
@@ -389,3 +389,14 @@ place_last bytes opened last left opens some =
     (length (opened_bits bytes opened left) - 1 - length (useful false (take (opened - 1) bytes))) (length (opened_bits bytes opened left) - 1) (omega arith) (omega arith) in
     sym (place_of_some bytes (length (opened_bits bytes opened left)) (omega arith)
     ∙ ap (place_from 0 false (length (opened_bits bytes opened left) - 1)) bytes_are ∙ at ∙ (let z : 0 + length (take (opened - 1) bytes) ≡ opened - 1 = omega arith in z))
+
+-- Whatever follows a header of these bits, they are the first that can be taken.
+pub stuffs_supply : (bits : List Bool) (bytes rest : List ℕ) → Stuffs bits bytes → (more : List Bool) × (supply (bytes ++ rest) ≡ bits ++ more)
+stuffs_supply bits bytes rest s = (
+  s.padding ++ supply_from (ends_in_ff false s.core) (s.last ++ rest),
+  ap (λ b. supply (b ++ rest)) s.bytes_are
+      ∙ ap supply (append_assoc s.core s.last rest)
+      ∙ supply-append false s.core (s.last ++ rest) s.stuffed
+      ∙ ap (λ b. b ++ supply_from (ends_in_ff false s.core) (s.last ++ rest)) s.bits_are
+      ∙ append_assoc bits s.padding (supply_from (ends_in_ff false s.core) (s.last ++ rest)),
+)
