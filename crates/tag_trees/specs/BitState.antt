@@ -1,0 +1,46 @@
+-- What a writer and a reader of a header's bits stand for.
+use Rattle.std.specs.Prelude.{◌≡◌, ℕ, ◌+◌, ◌-◌, ◌^◌, ◌<◌, ◌≤◌, ◌==◌, Bool, false, List, ◌++◌, length, take, drop, ◌⊎◌}
+use Rattle.tag_trees.specs.Bits.{number, width_behind, useful, IsStuffed, ends_in_ff}
+use Rattle.tag_trees.specs.Stuffing.{supply_from}
+
+-- a reader of a header's bits: the bytes that it was given, the bits that were taken, and those that can still be taken
+pub record BitSource : Type 0 where
+  pub bytes : List ℕ
+  pub taken : List Bool
+  pub ahead : List Bool
+
+-- What a writer keeps: whole bytes, and a byte begun, of `width` bits, `filled` of which are there as the number `part`; at most 7,000 bits.
+pub record Keeps (bytes : List ℕ) (part filled width : ℕ) : Type 0 where
+  pub width_is : width ≡ width_behind (ends_in_ff false bytes)
+  pub below : part < 2 ^ filled
+  pub room : filled < width
+  pub few : length (useful false bytes) + filled ≤ 7000
+  pub stuffed : IsStuffed false bytes
+
+-- all but the last `left` bits of the first `opened` bytes
+abbrev pub opened_bits : List ℕ → ℕ → ℕ → List Bool
+opened_bits bytes opened left = let whole = useful false (take opened bytes) in take (length whole - left) whole
+
+-- What a reader keeps: how many bytes are opened, the last of them (0 where there is none), and how many of its low bits are left.
+pub record Opens (bytes : List ℕ) (opened last left : ℕ) : Type 0 where
+  pub short : length bytes < 2 ^ 32
+  pub within : opened ≤ length bytes
+  pub few : left < 8
+  pub stuffed : IsStuffed false (take opened bytes)
+  pub behind : ends_in_ff false (take opened bytes) ≡ (last == 255)
+  pub split : useful false (take opened bytes) ≡ opened_bits bytes opened left ++ number left last
+  pub begun : ((opened ≡ 0) × (left ≡ 0)) ⊎ (length (useful false (take (opened - 1) bytes)) + left < length (useful false (take opened bytes)))
+
+-- the reader that these are
+abbrev pub source_of : List ℕ → ℕ → ℕ → ℕ → BitSource
+source_of bytes opened last left = record {
+  bytes = bytes;
+  taken = opened_bits bytes opened left;
+  ahead = number left last ++ supply_from (last == 255) (drop opened bytes);
+}
+
+-- these bits were taken, and no others
+pub record Took (old : BitSource) (bits : List Bool) (new : BitSource) : Type 0 where
+  pub same : new.bytes ≡ old.bytes
+  pub ahead : old.ahead ≡ bits ++ new.ahead
+  pub taken : new.taken ≡ old.taken ++ bits

@@ -1,0 +1,6 @@
+pub mod Bits
+pub mod Stuffing
+pub mod BitState
+pub mod TagTree
+pub mod NodeStep
+pub mod TreeState

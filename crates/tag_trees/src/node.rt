@@ -1,0 +1,97 @@
+// A node of a tag tree.
+ghost use Rattle.std.specs.Prelude.{◌≡◌, ◌+◌, ◌<◌, ◌≤◌, ◌++◌, ◌&&◌, [], length, max, nat_lt, false, IfOk, IfErr};
+ghost use Rattle.tag_trees.specs.NodeStep.{IsStep, step_bits, AllowsValue, RunsOut};
+ghost use Rattle.tag_trees.specs.BitState.{Took};
+ghost use Rattle.tag_trees.specs.Stuffing.{fault_of};
+
+use crate::bit_in::BitIn;
+use crate::bit_out::BitOut;
+use crate::fault::BitFault;
+
+// What a tree keeps of a node: its value, where the tree is written, and a lower bound, which is the value
+// itself where that is known to who reads.
+#[derive(Clone, Copy)]
+pub struct Node {
+    pub value: u8,
+    pub bound: u8,
+    pub known: bool,
+}
+
+impl Node {
+    // A node of which nothing is known.
+    pub fn unread(value: u8) -> Node
+        ensures value { result.value ≡ value }
+        ensures bound { result.bound ≡ 0 }
+        ensures known { result.known ≡ false }
+    {
+        Node {
+            value,
+            bound: 0,
+            known: false,
+        }
+    }
+
+    // Whether the value is known and below the threshold.
+    pub fn is_below(self, threshold: u8) -> bool
+        ensures { result ≡ (self.known && nat_lt self.bound threshold) }
+    {
+        self.known && self.bound < threshold
+    }
+
+    // Writes the node up to a threshold, from a bound of its parent on, and answers what it keeps: a 0 for each
+    // step of the bound up to the value, and a 1 where the value is below the threshold.
+    pub fn write(self, start: u8, threshold: u8, out: &mut BitOut) -> Node
+        requires threshold { threshold ≤ 32 }
+        requires room { length out.old + 100 ≤ 7000 }
+        ensures value { result.value ≡ self.value }
+        ensures step { IsStep (max self.bound start) threshold self.known result.bound result.known }
+        ensures bits { out.new ≡ out.old ++ step_bits (max self.bound start) self.known result.bound result.known }
+        ensures few { length out.new ≤ length out.old + 33 }
+        ensures allowed { AllowsValue self.known (max self.bound start) self.value → AllowsValue result.known result.bound self.value }
+    {
+        let mut bound = self.bound.max(start);
+        if self.known {
+            return Node { bound, ..self };
+        }
+        while bound < threshold {
+            if self.value <= bound {
+                out.put(true);
+                return Node {
+                    value: self.value,
+                    bound,
+                    known: true,
+                };
+            }
+            out.put(false);
+            bound += 1;
+        }
+        Node { bound, ..self }
+    }
+
+    // Reads the node up to a threshold, from a bound of its parent on, and answers what it keeps.
+    pub fn read(self, start: u8, threshold: u8, bits: &mut BitIn<'_>) -> Result<Node, BitFault>
+        requires threshold { threshold ≤ 32 }
+        ensures value { IfOk result (λ kept. kept.value ≡ self.value) }
+        ensures step { IfOk result (λ kept. IsStep (max self.bound start) threshold self.known kept.bound kept.known) }
+        ensures took { IfOk result (λ kept. Took bits.old (step_bits (max self.bound start) self.known kept.bound kept.known) bits.new) }
+        ensures same { bits.new.bytes ≡ bits.old.bytes }
+        ensures fault { IfErr result (λ fault. (fault ≡ fault_of bits.old.bytes) × (bits.new.ahead ≡ [])) }
+        ensures ends { IfErr result (λ fault. RunsOut bits.old.ahead (max self.bound start) threshold self.known) }
+    {
+        let mut bound = self.bound.max(start);
+        if self.known {
+            return Ok(Node { bound, ..self });
+        }
+        while bound < threshold {
+            if bits.take()? {
+                return Ok(Node {
+                    value: self.value,
+                    bound,
+                    known: true,
+                });
+            }
+            bound += 1;
+        }
+        Ok(Node { bound, ..self })
+    }
+}

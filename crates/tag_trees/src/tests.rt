@@ -1,0 +1,63 @@
+// The packing and the tag tree of worked examples.
+ghost use Rattle.std.specs.Prelude.{◌≡◌, ◌<◌, length};
+ghost use Rattle.tag_trees.specs.Stuffing.{packed};
+
+use crate::{BitFault, BitIn, BitOut, Tree};
+use arrayvec::ArrayVec;
+
+fn bytes_of(bits: &[bool]) -> ArrayVec<u8, 1024>
+    requires { length bits.now < 100 }
+    ensures { result.items ≡ packed bits.now }
+{
+    let mut out = BitOut::new();
+    for bit in bits {
+        out.put(*bit);
+    }
+    out.finish()
+}
+
+#[test]
+fn packs_ones(rt: HostRuntime) {
+    assert_eq!(rt; bytes_of(&[]).as_slice(), [].as_slice());
+    assert_eq!(rt; bytes_of(&[true; 8]).as_slice(), [0xff, 0x00].as_slice());
+    assert_eq!(rt; bytes_of(&[true; 9]).as_slice(), [0xff, 0x40].as_slice());
+    assert_eq!(rt; bytes_of(&[true; 15]).as_slice(), [0xff, 0x7f].as_slice());
+}
+
+#[test]
+fn takes_ones(rt: HostRuntime) {
+    let mut bits = BitIn::new(&[0xff, 0x40, 0xff]);
+    for _ in 0..9 {
+        assert_eq!(rt; bits.take(), Ok(true));
+    }
+    assert_eq!(rt; bits.place(), 1);
+    assert_eq!(rt; bits.finish(), Ok(2));
+
+    let mut bits = BitIn::new(&[0xff, 0xc0]);
+    for _ in 0..8 {
+        assert_eq!(rt; bits.take(), Ok(true));
+    }
+    assert_eq!(rt; bits.take(), Err(BitFault::StuffedBitSet(1)));
+
+    let mut bits = BitIn::new(&[0xff]);
+    assert_eq!(rt; bits.take(), Ok(true));
+    assert_eq!(rt; bits.finish(), Err(BitFault::OutOfBits(1)));
+}
+
+#[test]
+fn writes_and_reads_two_leaves(rt: HostRuntime) {
+    let mut out = BitOut::new();
+    let mut tree = Tree::of(2, 1, &[3, 5]);
+    tree.write_upto(0, 0, 4, &mut out);
+    tree.write_upto(1, 0, 6, &mut out);
+    let bytes = out.finish();
+    // 0001 1 001
+    assert_eq!(rt; bytes.as_slice(), [0x19].as_slice());
+
+    let mut bits = BitIn::new(&[0x19]);
+    let mut tree = Tree::unread(2, 1);
+    assert_eq!(rt; tree.read_upto(0, 0, 3, &mut bits), Ok(false));
+    assert_eq!(rt; tree.read_upto(0, 0, 4, &mut bits), Ok(true));
+    assert_eq!(rt; tree.read_upto(1, 0, 6, &mut bits), Ok(true));
+    assert_eq!(rt; bits.finish(), Ok(1));
+}
