@@ -17,6 +17,8 @@ mod main_header;
 mod put;
 mod run;
 mod stop;
+#[cfg(test)]
+mod tests;
 mod visits;
 mod words;
 mod written;

@@ -1,0 +1,206 @@
+// Whole runs, over objects in memory and over folders.
+ghost use Rattle.std.specs.Prelude.{◌≤◌};
+
+use crate::codestream::empty_codestream;
+use crate::run::run;
+use cine_ports::{
+    FolderFrames, FolderOutputs, MemoryFrame, MemoryFrames, MemoryOutputs, MemoryReport,
+    is_frame_list,
+};
+use std::alloc::{AllocError, Global};
+use std::fs;
+use std::test::Fail;
+
+/// A grey frame of one pixel.
+const GREY: &[u8] = b"P6\n1 1\n4095\n\x08\x00\x08\x00\x08\x00";
+
+/// The same with 16 bits a sample.
+const DEEP: &[u8] = b"P6\n1 1\n65535\n\x08\x00\x08\x00\x08\x00";
+
+/// The codestream of a frame of one pixel, written out by hand from the tables of the standard.
+#[rattlefmt::skip]
+const CODESTREAM: &[u8] = &[
+    0xFF, 0x4F,
+    0xFF, 0x51, 0x00, 0x2F, 0x00, 0x03, 0x00, 0x00, 0x00, 0x01, 0x00, 0x00, 0x00, 0x01,
+    0x00, 0x00, 0x00, 0x00, 0x00, 0x00, 0x00, 0x00, 0x00, 0x00, 0x00, 0x01, 0x00, 0x00, 0x00, 0x01,
+    0x00, 0x00, 0x00, 0x00, 0x00, 0x00, 0x00, 0x00, 0x00, 0x03,
+    0x0B, 0x01, 0x01, 0x0B, 0x01, 0x01, 0x0B, 0x01, 0x01,
+    0xFF, 0x52, 0x00, 0x12, 0x01, 0x04, 0x00, 0x01, 0x01, 0x05, 0x03, 0x03, 0x00, 0x00,
+    0x77, 0x88, 0x88, 0x88, 0x88, 0x88,
+    0xFF, 0x5C, 0x00, 0x23, 0x22, 0x90, 0x00, 0x90, 0x00, 0x90, 0x00, 0x90, 0x00, 0x88, 0x00, 0x88, 0x00,
+    0x88, 0x00, 0x80, 0x00, 0x80, 0x00, 0x80, 0x00, 0x78, 0x00, 0x78, 0x00, 0x78, 0x00, 0x70, 0x00,
+    0x70, 0x00, 0x70, 0x00,
+    0xFF, 0x55, 0x00, 0x13, 0x00, 0x50, 0x00, 0x00, 0x00, 0x00, 0x14, 0x00, 0x00, 0x00, 0x00, 0x14,
+    0x00, 0x00, 0x00, 0x00, 0x14,
+    0xFF, 0x90, 0x00, 0x0A, 0x00, 0x00, 0x00, 0x00, 0x00, 0x14, 0x00, 0x03, 0xFF, 0x93, 0, 0, 0, 0, 0, 0,
+    0xFF, 0x90, 0x00, 0x0A, 0x00, 0x00, 0x00, 0x00, 0x00, 0x14, 0x01, 0x03, 0xFF, 0x93, 0, 0, 0, 0, 0, 0,
+    0xFF, 0x90, 0x00, 0x0A, 0x00, 0x00, 0x00, 0x00, 0x00, 0x14, 0x02, 0x03, 0xFF, 0x93, 0, 0, 0, 0, 0, 0,
+    0xFF, 0xD9,
+];
+
+/// The line of such a frame behind its name.
+const BUDGETS: &str =
+    "2k 1x1 frame=191/1302083/0 c0=20/1041666/0 c1=20/1041666/0 c2=20/1041666/0 passes=0";
+
+const COMMAND: &str = "encode src dst --profile 2k";
+
+fn words(alloc: Global, text: &str) -> Result<Vec<String>, AllocError> {
+    let mut words = Vec::new(alloc);
+    for word in text.split_whitespace() {
+        words.push(String::from_str(alloc, word)?)?;
+    }
+    Ok(words)
+}
+
+fn file(alloc: Global, name: &str, bytes: &[u8]) -> Result<MemoryFrame, AllocError> {
+    Ok(MemoryFrame {
+        name: String::from_str(alloc, name)?,
+        bytes: Vec::from_slice(alloc, bytes)?,
+    })
+}
+
+/// What a run leaves.
+#[derive(Drop)]
+struct Ended {
+    status: u8,
+    outputs: MemoryOutputs,
+    report: MemoryReport,
+}
+
+/// Runs over frames in memory, of whose calls those of these numbers fail.
+fn run_over(
+    alloc: Global,
+    text: &str,
+    files: Vec<MemoryFrame>,
+    failing_reads: &[u32],
+    failing_writes: &[u32],
+) -> Result<Ended, Fail> {
+    if !is_frame_list(files.as_slice()) {
+        return Err(Fail::new("the names aren't in order"));
+    }
+    let mut frames = MemoryFrames::new(files, Vec::from_slice(alloc, failing_reads)?, 7);
+    let mut outputs = MemoryOutputs::new(alloc, Vec::from_slice(alloc, failing_writes)?, 100);
+    let mut report = MemoryReport::new(alloc, Vec::new(alloc), 10);
+    let words = words(alloc, text)?;
+    let status = run(
+        alloc,
+        words.as_slice(),
+        &mut frames,
+        &mut outputs,
+        &mut report,
+    );
+    Ok(Ended {
+        status,
+        outputs,
+        report,
+    })
+}
+
+fn is_file(file: Option<&MemoryFrame>, name: &str, bytes: &[u8]) -> bool {
+    match file {
+        Some(file) => file.name() == name && file.bytes() == bytes,
+        None => false,
+    }
+}
+
+#[test]
+fn each_frame_has_its_output_and_its_line(rt: HostRuntime) -> Result<(), Fail> {
+    let alloc = rt.alloc();
+    let mut files = Vec::new(alloc);
+    files.push(file(alloc, "a", GREY)?)?;
+    files.push(file(alloc, "e", DEEP)?)?;
+    files.push(file(alloc, "f~", GREY)?)?;
+    let ended = run_over(alloc, COMMAND, files, &[], &[])?;
+    assert_eq!(rt; ended.status, 1);
+    assert_eq!(rt; ended.outputs.files().len(), 2);
+    assert!(rt; is_file(ended.outputs.files().get(0), "a.j2c", CODESTREAM));
+    assert!(rt; is_file(ended.outputs.files().get(1), "f~.j2c", CODESTREAM));
+    let said = format!(in alloc; "ok a {BUDGETS}\nrefused e 90 NotPlain\nok f%7E {BUDGETS}\n")?;
+    assert!(rt; ended.report.bytes() == said.as_bytes());
+    Ok(())
+}
+
+#[test]
+fn a_fault_of_the_outputs_ends_a_run(rt: HostRuntime) -> Result<(), Fail> {
+    let alloc = rt.alloc();
+    let mut files = Vec::new(alloc);
+    files.push(file(alloc, "a", GREY)?)?;
+    files.push(file(alloc, "d", GREY)?)?;
+    let ended = run_over(alloc, COMMAND, files, &[], &[6])?;
+    assert_eq!(rt; ended.status, 4);
+    assert_eq!(rt; ended.outputs.files().len(), 1);
+    assert!(rt; is_file(ended.outputs.files().get(0), "a.j2c", CODESTREAM));
+    assert!(rt; is_file(ended.outputs.unfinished(), "d.j2c", &CODESTREAM[..100]));
+    let said = format!(in alloc; "ok a {BUDGETS}\n")?;
+    assert!(rt; ended.report.bytes() == said.as_bytes());
+    Ok(())
+}
+
+#[test]
+fn runs_without_a_line(rt: HostRuntime) -> Result<(), Fail> {
+    let alloc = rt.alloc();
+    let nothing = run_over(alloc, COMMAND, Vec::new(alloc), &[], &[])?;
+    assert_eq!(rt; nothing.status, 0);
+    assert!(rt; nothing.report.bytes().is_empty());
+    let mut files = Vec::new(alloc);
+    files.push(file(alloc, "a", GREY)?)?;
+    let unread = run_over(alloc, COMMAND, files, &[2], &[])?;
+    assert_eq!(rt; unread.status, 3);
+    assert!(rt; unread.report.bytes().is_empty());
+    Ok(())
+}
+
+#[test]
+fn other_words_are_no_command(rt: HostRuntime) -> Result<(), Fail> {
+    let alloc = rt.alloc();
+    for text in [
+        "",
+        "encode src",
+        "encode src dst --profile 3k",
+        "encode src dst --profile 2k --frame-bytes 0",
+        "encode src dst 2k --profile",
+        "Encode src dst --profile 2k",
+        "check src dst --profile 2k",
+    ] {
+        let ended = run_over(alloc, text, Vec::new(alloc), &[], &[])?;
+        assert_eq!(rt; ended.status, 2);
+    }
+    Ok(())
+}
+
+#[test]
+fn lengths_of_empty_codestreams(rt: HostRuntime) -> Result<(), Fail> {
+    let alloc = rt.alloc();
+    assert_eq!(rt; empty_codestream(alloc, 2048, 1080)?.bytes.len(), 350);
+    assert_eq!(rt; empty_codestream(alloc, 1, 1080)?.bytes.len(), 212);
+    assert_eq!(rt; empty_codestream(alloc, 2048, 1)?.bytes.len(), 224);
+    assert_eq!(rt; empty_codestream(alloc, 129, 257)?.bytes.len(), 194);
+    Ok(())
+}
+
+#[test]
+fn folder_to_folder(rt: HostRuntime) -> Result<(), Fail> {
+    let alloc = rt.alloc();
+    let _ = fs::remove_dir_all(&rt, "test-run");
+    fs::create_dir_all(&rt, "test-run/src")?;
+    fs::write(&rt, "test-run/src/a.ppm", GREY)?;
+    let source = String::from_str(alloc, "test-run/src")?;
+    let mut frames = FolderFrames::new(rt.clone()?, source, String::from_str(alloc, ".ppm")?);
+    let mut outputs = FolderOutputs::new(rt.clone()?, String::from_str(alloc, "test-run/dst")?);
+    let mut report = MemoryReport::new(alloc, Vec::new(alloc), 1000);
+    let words = words(alloc, COMMAND)?;
+    let status = run(
+        alloc,
+        words.as_slice(),
+        &mut frames,
+        &mut outputs,
+        &mut report,
+    );
+    assert_eq!(rt; status, 0);
+    let written = fs::read(&rt, "test-run/dst/a.j2c")?;
+    assert!(rt; written.as_slice() == CODESTREAM);
+    let said = format!(in alloc; "ok a {BUDGETS}\n")?;
+    assert!(rt; report.bytes() == said.as_bytes());
+    fs::remove_dir_all(&rt, "test-run")?;
+    Ok(())
+}
