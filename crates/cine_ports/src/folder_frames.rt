@@ -36,6 +36,8 @@ impl<R: Files + AllocGlobal + Clone + Drop> FolderFrames<R> {
 
     /// The frames of this folder, of which none is listed or begun. Nothing is read yet.
     pub fn new(rt: R, folder: String, suffix: String) -> FolderFrames<R>
+        ensures folder { result.folder ≡ folder }
+        ensures suffix { result.suffix ≡ suffix }
         ensures names { result.names.items ≡ [] }
         ensures listed { result.is_listed ≡ false }
         ensures asked { result.asked ≡ 0 }

@@ -62,6 +62,8 @@ impl<R: Files + AllocGlobal + Clone + Drop> FolderOutputs<R> {
 
     /// The outputs of this folder, of which none is begun. Nothing is written yet.
     pub fn new(rt: R, folder: String) -> FolderOutputs<R>
+        ensures folder { result.folder ≡ folder }
+        ensures made { result.is_made ≡ false }
         ensures closed { is_some result.part ≡ false }
         ensures faults { result.faults.count ≡ 0 }
     {

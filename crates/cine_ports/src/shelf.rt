@@ -25,6 +25,7 @@ impl Shelf {
         ensures listed { result.is_listed ≡ false }
         ensures asked { result.asked ≡ 0 }
         ensures begun { result.is_begun ≡ false }
+        ensures at { result.at ≡ 0 }
     {
         Shelf {
             files,
