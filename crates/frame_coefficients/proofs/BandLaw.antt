@@ -10,11 +10,11 @@ use Rattle.band_geometry.specs.Sizes.{res_side}
 use Rattle.band_geometry.specs.declared.geometry.Geometry.{Geometry}
 use Rattle.dz_quantiser.specs.declared.coef.Coef.{Coef}
 use Rattle.dz_quantiser.specs.declared.steps.Steps.{Steps}
-use Rattle.frame_coefficients.specs.Places.{res_of, column_res, row_res, orient_of, index_in, coef_at, quantised}
+use Rattle.frame_coefficients.specs.Places.{res_at, orient_of, index_in, coef_at, quantised}
 use Rattle.frame_coefficients.proofs.Resolutions.{res_of-below}
 use Rattle.frame_coefficients.proofs.Rows.{res_is, res_side-le, res_side-top, column_is, row_is}
 
-res_low : (levels side k i : ℕ) → k ≤ levels → i < res_side levels side k → res_of (res_side levels side) levels i ≤ k
+res_low : (levels side k i : ℕ) → k ≤ levels → i < res_side levels side k → res_at levels side i ≤ k
 res_low levels side k i within lt =
     res_of-below (res_side levels side) levels k i within
     (λ m low high. let le : res_side levels side k ≤ res_side levels side m = res_side-le levels side k m low (omega arith) in omega arith)
@@ -22,7 +22,7 @@ res_low levels side k i within lt =
 -- a side that lies in the part that resolution r has and the one below it has not
 res_high : (levels side r i : ℕ) → 1 ≤ r → r ≤ levels → res_side levels side (r - 1) ≤ i →
     i < res_side levels side (r - 1) + (res_side levels side r - res_side levels side (r - 1)) →
-    res_of (res_side levels side) levels i ≡ r
+    res_at levels side i ≡ r
 res_high levels side zero i some within from to = absurd (omega arith)
 res_high levels side (suc r) i some within from to =
     let less : suc r - 1 ≡ r = omega arith in
@@ -58,22 +58,22 @@ hh c r' r some column row =
     record { res = omega arith; orient = grind (arith, nat_tests) }
 
 band_is : (g : Geometry) (r : ℕ) (o : Orient) (x y : ℕ) → HasBand g r o → IsPlaceIn (band_of g r o) x y →
-    IsBandOf (column_res g x) (row_res g y) r o
+    IsBandOf (res_at g.levels g.width x) (res_at g.levels g.height y) r o
 band_is g r LL x y has place =
-    subst (λ r. IsBandOf (column_res g x) (row_res g y) r LL) (sym has.orient)
-    (ll (column_res g x) (row_res g y)
+    subst (λ r. IsBandOf (res_at g.levels g.width x) (res_at g.levels g.height y) r LL) (sym has.orient)
+    (ll (res_at g.levels g.width x) (res_at g.levels g.height y)
     (res_low g.levels g.width 0 x (omega arith) (omega (arith, place.right)))
     (res_low g.levels g.height 0 y (omega arith) (omega (arith, place.bottom))))
 band_is g r HL x y has place =
-    hl (column_res g x) (row_res g y) r has.orient
+    hl (res_at g.levels g.width x) (res_at g.levels g.height y) r has.orient
     (res_high g.levels g.width r x has.orient has.res place.left place.right)
     (res_low g.levels g.height (r - 1) y (omega (arith, has.res)) (omega (arith, place.bottom)))
 band_is g r LH x y has place =
-    lh (column_res g x) (row_res g y) r has.orient
+    lh (res_at g.levels g.width x) (res_at g.levels g.height y) r has.orient
     (res_low g.levels g.width (r - 1) x (omega (arith, has.res)) (omega (arith, place.right)))
     (res_high g.levels g.height r y has.orient has.res place.top place.bottom)
 band_is g r HH x y has place =
-    hh (column_res g x) (row_res g y) r has.orient
+    hh (res_at g.levels g.width x) (res_at g.levels g.height y) r has.orient
     (res_high g.levels g.width r x has.orient has.res place.left place.right)
     (res_high g.levels g.height r y has.orient has.res place.top place.bottom)
 
@@ -103,7 +103,7 @@ row_in g r HH x y has place = inside_high g.levels g.height r y has.orient has.r
 
 pub coef_in_band : (g : Geometry) (steps : Steps) (cells : List ℤ) (r : ℕ) (o : Orient) (x y : ℕ) (d : Coef) →
     length cells ≡ g.height * g.width → HasBand g r o → IsPlaceIn (band_of g r o) x y →
-    get_or (quantised g steps cells) (y * g.width + x) d ≡ index_in steps r o (get_or cells (y * g.width + x) (pos 0))
+    get_or (quantised g.levels g.width g.height steps cells) (y * g.width + x) d ≡ index_in steps r o (get_or cells (y * g.width + x) (pos 0))
 unfolding quantised coef_at
 coef_in_band g steps cells r o x y d len has place =
     let across : x < g.width = column_in g r o x y has place in
@@ -116,5 +116,5 @@ coef_in_band g steps cells r o x y d len has place =
     let column_x : y * g.width + x - y * g.width ≡ x = omega arith in
     let row : (y * g.width + x) / g.width ≡ y = row_is y g.width (y * g.width + x) (omega arith) (omega arith) in
     let is = band_is g r o x y has place in
-    get_or-map-range_with_len (coef_at g steps cells) 0 (length cells) (y * g.width + x) (y * g.width + x) d (omega arith) (omega arith)
+    get_or-map-range_with_len (coef_at g.levels g.width g.height steps cells) 0 (length cells) (y * g.width + x) (y * g.width + x) d (omega arith) (omega arith)
     ∙ rw (column, column_x, row, is.res, is.orient) refl

@@ -1,5 +1,6 @@
 mod BandLaw
 mod BandSteps
+mod BuiltInSteps
 mod Resolutions
 mod Rows
 mod Unknown

@@ -5,16 +5,14 @@ use Rattle.std.proofs.lemmas.List.FromFn.{fill_by_all}
 use Rattle.std.proofs.lemmas.List.Elements.{All-map}
 use Rattle.std.proofs.Math.Nat.{eq-or-lt_of_le}
 use Rattle.std.proofs.lemmas.Nat.{div-mul-add, mod-mul-add}
-use Rattle.band_geometry.specs.Bands.{res_width, res_height}
 use Rattle.band_geometry.specs.Sizes.{res_side}
 use Rattle.band_geometry.proofs.SideLemmas.{res_side_below_le}
-use Rattle.band_geometry.specs.declared.geometry.Geometry.{Geometry}
 use Rattle.dz_quantiser.specs.Bands.{AreUsable, step_of, range_of, planes_of}
 use Rattle.dz_quantiser.specs.Index.{index_of}
 use Rattle.dz_quantiser.specs.declared.steps.BandStep.{BandStep}
 use Rattle.dz_quantiser.specs.declared.coef.Coef.{Coef}
 use Rattle.dz_quantiser.specs.declared.steps.Steps.{Steps}
-use Rattle.frame_coefficients.specs.Places.{res_of, column_res, row_res, orient_of, index_at, coef_at, quantised}
+use Rattle.frame_coefficients.specs.Places.{res_at, orient_of, index_at, coef_at, quantised}
 use Rattle.frame_coefficients.proofs.BandSteps.{index-small}
 use Rattle.frame_coefficients.proofs.Resolutions.{res_of-is, res_of-le}
 
@@ -63,7 +61,7 @@ before-suc side r = let next : r + 1 ≡ suc r = omega arith in rw next refl
 
 -- a column or a row from the side of the resolution below up to the next one's is of that resolution
 pub res_is : (levels side r i : ℕ) → r ≤ levels → before (res_side levels side) r ≤ i → i < res_side levels side r →
-    res_of (res_side levels side) levels i ≡ r
+    res_at levels side i ≡ r
 res_is levels side r i within from to =
     res_of-is (res_side levels side) levels r i within (outside r from)
     (λ k low high. let le : res_side levels side r ≤ res_side levels side k = res_side-le levels side r k low (omega arith) in omega arith)
@@ -72,20 +70,16 @@ res_is levels side r i within from to =
     outside zero from some = absurd (omega arith)
     outside (suc r) from some = let less : suc r - 1 ≡ r = omega arith in rw less from
 
-pub column_res-is : (g : Geometry) (r x : ℕ) → r ≤ g.levels → before (res_width g) r ≤ x → x < res_width g r →
-    column_res g x ≡ r
-column_res-is g r x within from to = res_is g.levels g.width r x within from to
-
 -- the coefficient of a cell in such a column
-pub coef_in_column : (g : Geometry) (steps : Steps) (cells : List ℤ) (y c k : ℕ) → c ≤ g.levels →
-    y * g.width + before (res_width g) c ≤ k → k < y * g.width + res_width g c → k < y * g.width + g.width →
-    coef_at g steps cells k ≡ index_at steps c (row_res g y) (get_or cells k (pos 0))
+pub coef_in_column : (levels width height : ℕ) (steps : Steps) (cells : List ℤ) (y c k : ℕ) → c ≤ levels →
+    y * width + before (res_side levels width) c ≤ k → k < y * width + res_side levels width c → k < y * width + width →
+    coef_at levels width height steps cells k ≡ index_at steps c (res_at levels height y) (get_or cells k (pos 0))
 unfolding coef_at
-coef_in_column g steps cells y c k within from to end =
-    let x : k % g.width ≡ k - y * g.width = column_is y g.width k (omega arith) end in
-    let row : k / g.width ≡ y = row_is y g.width k (omega arith) end in
-    let column : column_res g (k - y * g.width) ≡ c =
-    column_res-is g c (k - y * g.width) within (omega arith) (omega arith) in
+coef_in_column levels width height steps cells y c k within from to end =
+    let x : k % width ≡ k - y * width = column_is y width k (omega arith) end in
+    let row : k / width ≡ y = row_is y width k (omega arith) end in
+    let column : res_at levels width (k - y * width) ≡ c =
+    res_is levels width c (k - y * width) within (omega arith) (omega arith) in
     rw (x, row, column) refl
 
 -- what a band is told by its step, range and planes
@@ -96,26 +90,26 @@ pub index_at-is : (steps : Steps) (c r : ℕ) (v : ℤ) (step : BandStep) (range
 index_at-is steps c r v step range planes step_is range_is planes_is = rw (planes_is, range_is, step_is) refl
 
 -- each coefficient is below 2 ^ 20
-coef_at-small : (g : Geometry) (steps : Steps) (cells : List ℤ) (k : ℕ) → AreUsable g.levels steps →
-    (coef_at g steps cells k).magnitude < 2 ^ 20
+coef_at-small : (levels width height : ℕ) (steps : Steps) (cells : List ℤ) (k : ℕ) → AreUsable levels steps →
+    (coef_at levels width height steps cells k).magnitude < 2 ^ 20
 unfolding coef_at
-coef_at-small g steps cells k are =
-    index-small g.levels (column_res g (k % g.width)) (row_res g (k / g.width)) steps (get_or cells k (pos 0)) are
-    (res_of-le (res_width g) g.levels (k % g.width)) (res_of-le (res_height g) g.levels (k / g.width))
+coef_at-small levels width height steps cells k are =
+    index-small levels (res_at levels width (k % width)) (res_at levels height (k / width)) steps (get_or cells k (pos 0)) are
+    (res_of-le (res_side levels width) levels (k % width)) (res_of-le (res_side levels height) levels (k / width))
 
-pub quantised-small : (g : Geometry) (steps : Steps) (cells : List ℤ) → AreUsable g.levels steps →
-    All (λ q. q.magnitude < 2 ^ 20) (quantised g steps cells)
+pub quantised-small : (levels width height : ℕ) (steps : Steps) (cells : List ℤ) → AreUsable levels steps →
+    All (λ q. q.magnitude < 2 ^ 20) (quantised levels width height steps cells)
 unfolding quantised
-quantised-small g steps cells are =
-    All-map (λ q. q.magnitude < 2 ^ 20) (coef_at g steps cells) (range_with_len 0 (length cells))
-    (λ k d lt. coef_at-small g steps cells _ are)
+quantised-small levels width height steps cells are =
+    All-map (λ q. q.magnitude < 2 ^ 20) (coef_at levels width height steps cells) (range_with_len 0 (length cells))
+    (λ k d lt. coef_at-small levels width height steps cells _ are)
 
 -- a list with the coefficient of each place
-pub quantised-from : (g : Geometry) (steps : Steps) (cells : List ℤ) (coefs : List Coef) →
+pub quantised-from : (levels width height : ℕ) (steps : Steps) (cells : List ℤ) (coefs : List Coef) →
     length coefs ≡ length cells →
-    ((k : ℕ) (d : Coef) → k < length cells → get_or coefs k d ≡ coef_at g steps cells k) →
-    coefs ≡ quantised g steps cells
+    ((k : ℕ) (d : Coef) → k < length cells → get_or coefs k d ≡ coef_at levels width height steps cells k) →
+    coefs ≡ quantised levels width height steps cells
 unfolding quantised
-quantised-from g steps cells coefs len at =
+quantised-from levels width height steps cells coefs len at =
     let none : Coef = record { magnitude = 0; negative = false } in
-    fill_by_all (coef_at g steps cells) coefs (length cells) none len (λ k lt. at k none lt)
+    fill_by_all (coef_at levels width height steps cells) coefs (length cells) none len (λ k lt. at k none lt)

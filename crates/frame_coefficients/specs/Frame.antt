@@ -1,7 +1,6 @@
 -- The coefficients of a frame, from its samples on: the component transform (ISO/IEC 15444-1, Annex G.3), the
 -- wavelet transform of each component (Annex F) and the quantiser (Annex E).
 use Rattle.std.specs.Prelude.{ℕ, zero, suc, ◌+◌, ℤ, List}
-use Rattle.band_geometry.specs.declared.geometry.Geometry.{Geometry}
 use Rattle.colour_ict.specs.Ict.{component0, component1, component2}
 use Rattle.colour_ict.specs.Pointwise.{pointwise}
 use Rattle.dz_quantiser.specs.declared.coef.Coef.{Coef}
@@ -16,13 +15,15 @@ component zero xs ys zs = pointwise component0 xs ys zs
 component (suc zero) xs ys zs = pointwise component1 xs ys zs
 component (suc (suc _)) xs ys zs = pointwise component2 xs ys zs
 
--- the coefficients of component 0, 1 or 2 of a frame, in raster order of the transformed plane
-unfoldable pub coefficients_of : Geometry → Steps → ℕ → List ℕ → List ℕ → List ℕ → List Coef
-coefficients_of g steps c xs ys zs =
-    quantised g steps (plane_transform g.levels g.width g.height (component c xs ys zs))
+-- the coefficients of component 0, 1 or 2 of a frame of this width and height, by so many levels of the
+-- wavelet transform and these steps, in raster order of the transformed plane
+unfoldable pub coefficients_of : ℕ → ℕ → ℕ → Steps → ℕ → List ℕ → List ℕ → List ℕ → List Coef
+coefficients_of levels width height steps c xs ys zs =
+    quantised levels width height steps (plane_transform levels width height (component c xs ys zs))
 
 -- the distortion of a frame of which nothing is known: the sum over the coefficients of all components
-unfoldable pub empty_of : Geometry → Steps → List ℕ → List ℕ → List ℕ → ℕ
-empty_of g steps xs ys zs =
-    energy (coefficients_of g steps 0 xs ys zs) + energy (coefficients_of g steps 1 xs ys zs)
-    + energy (coefficients_of g steps 2 xs ys zs)
+unfoldable pub empty_of : ℕ → ℕ → ℕ → Steps → List ℕ → List ℕ → List ℕ → ℕ
+empty_of levels width height steps xs ys zs =
+    energy (coefficients_of levels width height steps 0 xs ys zs)
+    + energy (coefficients_of levels width height steps 1 xs ys zs)
+    + energy (coefficients_of levels width height steps 2 xs ys zs)

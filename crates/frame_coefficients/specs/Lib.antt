@@ -1,3 +1,4 @@
+pub mod BuiltIn
 pub mod Energy
 pub mod Frame
 pub mod Places

@@ -4,8 +4,7 @@ use Rattle.std.specs.Prelude.{ℕ, zero, suc, ◌/◌, ◌%◌, max, ℤ, pos, L
 use Rattle.std.specs.List.{range_with_len}
 use Rattle.cine_nums.specs.declared.orient.Orient.{Orient}
 use Rattle.cine_nums.specs.declared.orient.Orient.TheVariants.{LL, HL, LH, HH}
-use Rattle.band_geometry.specs.Bands.{res_width, res_height}
-use Rattle.band_geometry.specs.declared.geometry.Geometry.{Geometry}
+use Rattle.band_geometry.specs.Sizes.{res_side}
 use Rattle.dz_quantiser.specs.Bands.{step_of, range_of, planes_of}
 use Rattle.dz_quantiser.specs.Index.{index_of}
 use Rattle.dz_quantiser.specs.declared.coef.Coef.{Coef}
@@ -17,11 +16,9 @@ abbrev pub res_of : (ℕ → ℕ) → ℕ → ℕ → ℕ
 res_of side zero i = 0
 res_of side (suc r) i = if nat_lt i (side r) then res_of side r i else suc r
 
-abbrev pub column_res : Geometry → ℕ → ℕ
-column_res g x = res_of (res_width g) g.levels x
-
-abbrev pub row_res : Geometry → ℕ → ℕ
-row_res g y = res_of (res_height g) g.levels y
+-- that of a column of a plane of this width and so many levels, or of a row of a plane of this height
+abbrev pub res_at : ℕ → ℕ → ℕ → ℕ
+res_at levels side i = res_of (res_side levels side) levels i
 
 -- The band in a column of resolution c and a row of resolution r stands at the larger of the two. It is
 -- high-pass along a row where the column is of that resolution, and along a column where the row is.
@@ -38,10 +35,13 @@ index_in steps r o v = let step = step_of steps r o in
 abbrev pub index_at : Steps → ℕ → ℕ → ℤ → Coef
 index_at steps c r v = index_in steps (max c r) (orient_of c r) v
 
--- the coefficient at place n of a transformed plane, and those at all places
-unfoldable pub coef_at : Geometry → Steps → List ℤ → ℕ → Coef
-coef_at g steps cells n =
-    index_at steps (column_res g (n % g.width)) (row_res g (n / g.width)) (slice_index_or cells n (pos 0))
+-- the coefficient at place n of a transformed plane of so many levels, this width and this height, and
+-- those at all places
+unfoldable pub coef_at : ℕ → ℕ → ℕ → Steps → List ℤ → ℕ → Coef
+coef_at levels width height steps cells n =
+    index_at steps (res_at levels width (n % width)) (res_at levels height (n / width))
+    (slice_index_or cells n (pos 0))
 
-unfoldable pub quantised : Geometry → Steps → List ℤ → List Coef
-quantised g steps cells = map (coef_at g steps cells) (range_with_len 0 (length cells))
+unfoldable pub quantised : ℕ → ℕ → ℕ → Steps → List ℤ → List Coef
+quantised levels width height steps cells =
+    map (coef_at levels width height steps cells) (range_with_len 0 (length cells))

@@ -2,7 +2,7 @@
 ghost use Rattle.std.specs.Prelude.{◌≡◌, ◌<◌, ◌≤◌, max};
 ghost use Rattle.band_geometry.specs.Sizes.{res_side};
 ghost use Rattle.dz_quantiser.specs.Bands.{step_of, range_of, planes_of, AreUsable};
-ghost use Rattle.frame_coefficients.specs.Places.{row_res, orient_of};
+ghost use Rattle.frame_coefficients.specs.Places.{res_at, orient_of};
 
 use band_geometry::Geometry;
 use cine_nums::Orient;
@@ -18,7 +18,7 @@ pub struct Band {
 
 /// The resolution of a row of the transformed plane.
 pub fn row_res(geometry: &Geometry, y: u32) -> u8
-    ensures value { result ≡ row_res geometry.now y }
+    ensures value { result ≡ res_at geometry.now.levels geometry.now.height y }
     ensures within { result ≤ geometry.now.levels }
 {
     let mut res = geometry.levels;

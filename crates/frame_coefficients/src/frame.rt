@@ -72,7 +72,8 @@ fn coefs_of(
     requires cells { All Within30 plane.cells.items }
     requires scratch { 2 * max geometry.now.width geometry.now.height ≤ length scratch.old }
     ensures size { IfOk result (λ q. HasSize geometry.now q) }
-    ensures value { IfOk result (λ q. q.cells.items ≡ quantised geometry.now steps.now
+    ensures value { IfOk result (λ q. q.cells.items ≡
+        quantised geometry.now.levels geometry.now.width geometry.now.height steps.now
         (plane_transform geometry.now.levels geometry.now.width geometry.now.height plane.cells.items)) }
     ensures magnitudes { IfOk result (λ q. IsSmall q) }
 {
@@ -91,7 +92,7 @@ fn coefs_of(
 /// component transform (ISO/IEC 15444-1, Annex G.3), the wavelet transform of the geometry's levels
 /// (Annex F), and the index of each place by the step of its band (Annex E).
 ///
-/// Every magnitude is below `2^20`. The only refusal is want of memory.
+/// Every magnitude is below `2^20`, and `empty` below `2^68`. The only refusal is want of memory.
 pub fn coefficients(
     alloc: Global,
     geometry: &Geometry,
@@ -102,16 +103,21 @@ pub fn coefficients(
 ) -> Result<FrameCoefs, AllocError>
     requires guard { steps.now.guard ≤ 7 }
     requires usable { AreUsable geometry.now.levels steps.now }
-    requires x_len { length x.now ≡ geometry.now.height * geometry.now.width }
-    requires y_len { length y.now ≡ geometry.now.height * geometry.now.width }
-    requires z_len { length z.now ≡ geometry.now.height * geometry.now.width }
+    requires x_len { length x.now ≡ geometry.now.width * geometry.now.height }
+    requires y_len { length y.now ≡ geometry.now.width * geometry.now.height }
+    requires z_len { length z.now ≡ geometry.now.width * geometry.now.height }
     requires x_in_range { All (λ s. s ≤ 4095) x.now }
     requires y_in_range { All (λ s. s ≤ 4095) y.now }
     requires z_in_range { All (λ s. s ≤ 4095) z.now }
-    ensures c0 { IfOk result (λ q. q.c0.cells.items ≡ coefficients_of geometry.now steps.now 0 x.now y.now z.now) }
-    ensures c1 { IfOk result (λ q. q.c1.cells.items ≡ coefficients_of geometry.now steps.now 1 x.now y.now z.now) }
-    ensures c2 { IfOk result (λ q. q.c2.cells.items ≡ coefficients_of geometry.now steps.now 2 x.now y.now z.now) }
-    ensures empty { IfOk result (λ q. q.empty ≡ empty_of geometry.now steps.now x.now y.now z.now) }
+    ensures c0 { IfOk result (λ q. q.c0.cells.items ≡
+        coefficients_of geometry.now.levels geometry.now.width geometry.now.height steps.now 0 x.now y.now z.now) }
+    ensures c1 { IfOk result (λ q. q.c1.cells.items ≡
+        coefficients_of geometry.now.levels geometry.now.width geometry.now.height steps.now 1 x.now y.now z.now) }
+    ensures c2 { IfOk result (λ q. q.c2.cells.items ≡
+        coefficients_of geometry.now.levels geometry.now.width geometry.now.height steps.now 2 x.now y.now z.now) }
+    ensures empty { IfOk result (λ q. q.empty ≡
+        empty_of geometry.now.levels geometry.now.width geometry.now.height steps.now x.now y.now z.now) }
+    ensures small { IfOk result (λ q. q.empty < 2 ^ 68) }
     ensures size { IfOk result (λ q. HasSize geometry.now q.c0 × HasSize geometry.now q.c1 × HasSize geometry.now q.c2) }
     ensures magnitudes { IfOk result (λ q. IsSmall q.c0 × IsSmall q.c1 × IsSmall q.c2) }
 {

@@ -5,7 +5,7 @@ ghost use Rattle.cine_nums.specs.Fixed.{Within30};
 ghost use Rattle.dz_quantiser.specs.Bands.{AreUsable};
 ghost use Rattle.dz_quantiser.specs.Index.{index_of};
 ghost use Rattle.dz_quantiser.specs.declared.coef.Coef.{Coef};
-ghost use Rattle.frame_coefficients.specs.Places.{row_res, coef_at, index_in, quantised};
+ghost use Rattle.frame_coefficients.specs.Places.{coef_at, index_in, quantised};
 ghost use Rattle.cine_nums.specs.declared.orient.Orient.{Orient};
 ghost use Rattle.band_geometry.specs.Bands.{HasBand, band_of, IsPlaceIn};
 
@@ -45,7 +45,7 @@ fn quantise_row(geometry: &Geometry, steps: &Steps, cells: &[i32], y: u32, coefs
     requires len { length coefs.old ≡ length cells.now }
     ensures before { (k : ℕ) (d : Coef) → k < y * geometry.now.width → slice_index_or coefs.new k d ≡ slice_index_or coefs.old k d }
     ensures done { (k : ℕ) (d : Coef) → y * geometry.now.width ≤ k → k < (y + 1) * geometry.now.width →
-        slice_index_or coefs.new k d ≡ coef_at geometry.now steps.now cells.now k }
+        slice_index_or coefs.new k d ≡ coef_at geometry.now.levels geometry.now.width geometry.now.height steps.now cells.now k }
 {
     let row = row_res(geometry, y);
     let at = y as usize * geometry.width as usize;
@@ -65,7 +65,7 @@ pub fn quantise_plane(geometry: &Geometry, steps: &Steps, cells: &[i32], coefs: 
     requires cells { All Within30 cells.now }
     requires places { length cells.now ≡ geometry.now.height * geometry.now.width }
     requires len { length coefs.old ≡ length cells.now }
-    ensures value { coefs.new ≡ quantised geometry.now steps.now cells.now }
+    ensures value { coefs.new ≡ quantised geometry.now.levels geometry.now.width geometry.now.height steps.now cells.now }
     ensures magnitudes { All (λ q. q.magnitude < 2 ^ 20) coefs.new }
     // By bands: each place of each band has the index by that band's step.
     ensures bands { (r : ℕ) (o : Orient) (x y : ℕ) (d : Coef) → HasBand geometry.now r o →

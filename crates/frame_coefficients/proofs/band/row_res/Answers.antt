@@ -1,5 +1,5 @@
 use Rattle.std.proofs.Common.{arith, ◌∙◌}
-use Rattle.band_geometry.specs.Bands.{res_height}
+use Rattle.band_geometry.specs.Sizes.{res_side}
 use Rattle.frame_coefficients.proofs.Resolutions.{step_down}
 use Rattle.frame_coefficients.proofs.band.row_res.Goals as goal
 
@@ -8,6 +8,6 @@ loop-res-preserved c = record {
   within = omega arith;
   same =
       c.loop-res.invariant.same
-      ∙ step_down (res_height c.args.geometry.now) c.loop-res.res c.args.y (omega arith)
+      ∙ step_down (res_side c.args.geometry.now.levels c.args.geometry.now.height) c.loop-res.res c.args.y (omega arith)
       (omega (arith, c.if-y-res_size.true, c.res_size.ensures.height));
 }

@@ -7,13 +7,13 @@ use Rattle.frame_coefficients.proofs.quantise.quantise_plane.Goals as goal
 pub returns-clause-value : goal.returns-clause-value
 returns-clause-value c =
     let last : c.loop-y.y ≡ c.args.geometry.now.height = omega arith in
-    quantised-from c.args.geometry.now c.args.steps.now c.args.cells.now c.loop-y.coefs (omega arith)
+    quantised-from c.args.geometry.now.levels c.args.geometry.now.width c.args.geometry.now.height c.args.steps.now c.args.cells.now c.loop-y.coefs (omega arith)
     (λ k d lt. c.loop-y.invariant.done k d (rw last (omega arith)))
 
 pub returns-clause-magnitudes : goal.returns-clause-magnitudes
 returns-clause-magnitudes c =
     subst (All (λ q. q.magnitude < 2 ^ 20)) (sym (returns-clause-value c))
-    (quantised-small c.args.geometry.now c.args.steps.now c.args.cells.now c.requires.usable)
+    (quantised-small c.args.geometry.now.levels c.args.geometry.now.width c.args.geometry.now.height c.args.steps.now c.args.cells.now c.requires.usable)
 
 pub returns-clause-bands : goal.returns-clause-bands
 returns-clause-bands c = λ r o x y d has place.

@@ -6,5 +6,5 @@ use Rattle.frame_coefficients.proofs.quantise.quantise_plane.Given as goal
 abbrev pub invariant-loop-y : goal.invariant-loop-y
 invariant-loop-y l = record {
   done : (k : ℕ) (d : Coef) → k < l.y * l.geometry.width →
-      get_or l.coefs k d ≡ coef_at l.geometry l.steps l.cells k;
+      get_or l.coefs k d ≡ coef_at l.geometry.levels l.geometry.width l.geometry.height l.steps l.cells k;
 }

@@ -1,6 +1,5 @@
 use Rattle.std.proofs.Common.{◌≡◌, ◌≤◌, pos, get_or, arith, sym, ap, refl, ◌∙◌, inl, inr}
 use Rattle.std.proofs.lemmas.Bool.{cases_lt}
-use Rattle.band_geometry.specs.Bands.{res_width}
 use Rattle.band_geometry.specs.Sizes.{res_side}
 use Rattle.frame_coefficients.specs.Places.{index_at}
 use Rattle.frame_coefficients.proofs.Rows.{before-le, before-suc, res_side-le, res_side-top, index_at-is, coef_in_column}
@@ -19,7 +18,7 @@ loop-column-preserved c =
     res_side-le g.levels g.width column g.levels (omega arith) (omega arith) in
     let whole : res_side g.levels g.width g.levels ≡ g.width = res_side-top g.levels g.width in
     record {
-      reached = rw (before-suc (res_width g) column, c.res_size.ensures.width) refl;
+      reached = rw (before-suc (res_side g.levels g.width) column, c.res_size.ensures.width) refl;
       earlier = λ k d lt. c.quantise_run.ensures.before k d (omega (arith, c.loop-column.invariant.reached))
           ∙ c.loop-column.invariant.earlier k d lt;
       done = λ k d low high.
@@ -31,7 +30,7 @@ loop-column-preserved c =
                 c.band_at-band.result.step c.band_at-band.result.range c.band_at-band.result.planes
                 c.band_at-band.ensures.step c.band_at-band.ensures.range c.band_at-band.ensures.planes
                 ∙ ap (λ r. index_at c.args.steps.now column r (get_or c.args.cells.now k (pos 0))) c.row_res-row.ensures.value
-                ∙ sym (coef_in_column g c.args.steps.now c.args.cells.now c.args.y column k (omega arith)
+                ∙ sym (coef_in_column g.levels g.width g.height c.args.steps.now c.args.cells.now c.args.y column k (omega arith)
                 (omega (arith, c.loop-column.invariant.reached)) (omega (arith, c.res_size.ensures.width))
                 (omega (arith, c.res_size.ensures.width)))
           ];
