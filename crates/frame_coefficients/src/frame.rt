@@ -141,6 +141,49 @@ mod tests {
     use dz_quantiser::Coef;
     use std::test::Fail;
 
+    fn signed(alloc: Global, plane: &CoefPlane) -> Result<Vec<i64>, AllocError> {
+        let mut values = Vec::new(alloc);
+        for coef in plane.cells.as_slice() {
+            let size = i64::from(coef.magnitude);
+            values.push(if coef.negative { -size } else { size })?;
+        }
+        Ok(values)
+    }
+
+    // The values come from a program that shares no code with this one.
+    #[test]
+    fn frame_of_five_by_three_pixels(rt: HostRuntime) -> Result<(), Fail> {
+        let geometry = Geometry::new(Profile::TwoK, 5, 5, 3);
+        let steps = Steps::built_in(Profile::TwoK);
+        let x = [
+            0, 4095, 2048, 100, 3000, 4095, 4095, 7, 2047, 2049, 1234, 0, 999, 4000, 1,
+        ];
+        let y = [
+            4095, 0, 2048, 50, 1000, 17, 4095, 3500, 2048, 2048, 0, 4095, 2500, 3, 2222,
+        ];
+        let z = [
+            2048, 1, 4095, 2000, 900, 4095, 0, 0, 4095, 2050, 555, 4095, 1500, 60, 3,
+        ];
+        let frame = coefficients(rt.alloc(), &geometry, &steps, &x, &y, &z)?;
+        let c0 = [
+            -1200, -4425, 1301, -400, -1802, -56, 1643, 1188, 4701, -155, 1865, 1368, 2293, 1566,
+            1217,
+        ];
+        let c1 = [
+            -10448, 2782, -1791, -4179, 2936, 1591, -3987, -1714, -1058, 1460, 88, -2945, 2380,
+            -2266, 1608,
+        ];
+        let c2 = [
+            -1901, -1016, -3944, 5367, -1537, -3277, -320, -1004, -4109, 5139, 3600, -2116, -660,
+            -462, -418,
+        ];
+        assert_eq!(rt; signed(rt.alloc(), &frame.c0)?.as_slice(), c0.as_slice());
+        assert_eq!(rt; signed(rt.alloc(), &frame.c1)?.as_slice(), c1.as_slice());
+        assert_eq!(rt; signed(rt.alloc(), &frame.c2)?.as_slice(), c2.as_slice());
+        assert_eq!(rt; frame.empty, 1538582757);
+        Ok(())
+    }
+
     #[test]
     fn frames_of_one_pixel(rt: HostRuntime) -> Result<(), Fail> {
         let geometry = Geometry::new(Profile::TwoK, 5, 1, 1);

@@ -6,6 +6,7 @@ ghost use Rattle.dz_quantiser.specs.Bands.{AreUsable};
 ghost use Rattle.dz_quantiser.specs.Index.{index_of};
 ghost use Rattle.dz_quantiser.specs.declared.coef.Coef.{Coef};
 ghost use Rattle.frame_coefficients.specs.Places.{coef_at, index_in, quantised};
+ghost use Rattle.frame_coefficients.specs.Planes.{IsInBand};
 ghost use Rattle.cine_nums.specs.declared.orient.Orient.{Orient};
 ghost use Rattle.band_geometry.specs.Bands.{HasBand, band_of, IsPlaceIn};
 
@@ -67,7 +68,9 @@ pub fn quantise_plane(geometry: &Geometry, steps: &Steps, cells: &[i32], coefs: 
     requires len { length coefs.old ≡ length cells.now }
     ensures value { coefs.new ≡ quantised geometry.now.levels geometry.now.width geometry.now.height steps.now cells.now }
     ensures magnitudes { All (λ q. q.magnitude < 2 ^ 20) coefs.new }
-    // By bands: each place of each band has the index by that band's step.
+    // By bands: each place of the plane is one of a band, and each place of each band has the index by
+    // that band's step.
+    ensures everywhere { (x y : ℕ) → x < geometry.now.width → y < geometry.now.height → IsInBand geometry.now x y }
     ensures bands { (r : ℕ) (o : Orient) (x y : ℕ) (d : Coef) → HasBand geometry.now r o →
         IsPlaceIn (band_of geometry.now r o) x y →
         slice_index_or coefs.new (y * geometry.now.width + x) d ≡

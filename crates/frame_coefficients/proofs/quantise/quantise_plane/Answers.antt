@@ -1,6 +1,7 @@
 use Rattle.std.proofs.Common.{◌≡◌, ◌*◌, ◌<◌, ◌^◌, arith, sym, subst, ap, get_or, ◌+◌, ◌∙◌}
 use Rattle.std.specs.List.{All}
 use Rattle.frame_coefficients.proofs.BandLaw.{coef_in_band}
+use Rattle.frame_coefficients.proofs.Everywhere.{in_band}
 use Rattle.frame_coefficients.proofs.Rows.{quantised-from, quantised-small}
 use Rattle.frame_coefficients.proofs.quantise.quantise_plane.Goals as goal
 
@@ -19,3 +20,6 @@ pub returns-clause-bands : goal.returns-clause-bands
 returns-clause-bands c = λ r o x y d has place.
     ap (λ coefs. get_or coefs (y * c.args.geometry.now.width + x) d) (returns-clause-value c)
     ∙ coef_in_band c.args.geometry.now c.args.steps.now c.args.cells.now r o x y d c.requires.places has place
+
+pub returns-clause-everywhere : goal.returns-clause-everywhere
+returns-clause-everywhere c = in_band c.args.geometry.now
