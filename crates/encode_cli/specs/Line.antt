@@ -1,6 +1,7 @@
 -- The lines of the report. Fields are separated by one space, numbers are decimal, LF ends a line.
 use Rattle.std.specs.Prelude.{ℕ, ◌+◌, ◌/◌, ◌%◌, ◌||◌, ◌&&◌, ◌==◌, nat_le, nat_lt, List, [], ◌∷◌, ◌++◌, if◌then◌else◌, Bool, codes, decimal}
 use Rattle.std.specs.List.{flat_map}
+use Rattle.pnm_frames.specs.Fault.{Fault, NotPpm, BadHeader, HeaderTooLong, WrongMaxval, WidthOutOfRange, HeightOutOfRange, SampleTooLarge, Truncated, TrailingBytes}
 use Rattle.encode_cli.specs.declared.limits.TheConstants.{FRAME_LIMIT, COMPONENT_LIMIT}
 
 -- whether a byte of a name is printed as it is: ASCII letters, digits, '.', '_' and '-'
@@ -43,6 +44,18 @@ abbrev pub ok_line : List ℕ → ℕ → ℕ → ℕ → ℕ → List ℕ
 ok_line name width height frame part =
     ok_head name width height ++ (codes " " ++ (budgets frame part ++ codes " passes=0\n"))
 
--- the line of a file that isn't a plain frame
-abbrev pub refused_line : List ℕ → List ℕ
-refused_line name = codes "refused " ++ (escaped name ++ codes " 90 NotPlain\n")
+-- a fault as it is printed: its code, its word, and behind these the place or the number of bytes, if it tells one
+abbrev pub fault_words : Fault → List ℕ
+fault_words NotPpm = codes "1 NotPpm"
+fault_words (BadHeader place) = codes "2 BadHeader " ++ decimal place
+fault_words HeaderTooLong = codes "3 HeaderTooLong"
+fault_words WrongMaxval = codes "4 WrongMaxval"
+fault_words WidthOutOfRange = codes "5 WidthOutOfRange"
+fault_words HeightOutOfRange = codes "6 HeightOutOfRange"
+fault_words (SampleTooLarge place) = codes "7 SampleTooLarge " ++ decimal place
+fault_words (Truncated seen) = codes "8 Truncated " ++ decimal seen
+fault_words TrailingBytes = codes "9 TrailingBytes"
+
+-- the line of a file that is no frame, by its first fault
+abbrev pub refused_line : List ℕ → Fault → List ℕ
+refused_line name fault = codes "refused " ++ (escaped name ++ (codes " " ++ (fault_words fault ++ codes "\n")))

@@ -60,7 +60,7 @@ outputs_of visit = outputs_of_found visit.name visit.found
 abbrev pub line_of_found : List ℕ → Result Picture Fault → List ℕ
 line_of_found name (Ok p) =
     ok_line name p.width p.height (length (empty_codestream_of p)) (part_length (replicate (packet_count p.width p.height) 0))
-line_of_found name (Err fault) = refused_line name
+line_of_found name (Err fault) = refused_line name fault
 
 abbrev pub line_of : Visit → List ℕ
 line_of visit = line_of_found visit.name visit.found

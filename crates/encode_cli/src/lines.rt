@@ -1,8 +1,10 @@
 // The lines of the report.
-ghost use Rattle.std.specs.Prelude.{◌≡◌, ◌<◌, ◌++◌, IfOk, OnOk, IsTrue, string_bytes};
-ghost use Rattle.encode_cli.specs.Line.{is_plain, hex_digit, escaped_byte, escaped, budget, budgets, ok_head, ok_line, refused_line};
+ghost use Rattle.std.specs.Prelude.{◌≡◌, ◌<◌, ◌++◌, IfOk, IfSome, OnOk, IsTrue, string_bytes};
+ghost use Rattle.encode_cli.specs.Line.{is_plain, hex_digit, escaped_byte, escaped, budget, budgets, ok_head, ok_line, fault_words, refused_line};
+ghost use Rattle.pnm_frames.specs.Fault.{fault_of};
 
 use crate::limits::{COMPONENT_LIMIT, FRAME_LIMIT};
+use pnm_frames::FrameRefusal;
 use std::alloc::{AllocError, Global};
 
 /// Whether a byte of a name is printed as it is.
@@ -89,10 +91,31 @@ pub fn ok_line(
     format!(in alloc; "{head} {budgets} passes=0\n")
 }
 
-/// The line of a file that isn't a plain frame.
-pub fn refused_line(alloc: Global, name: &str) -> Result<String, AllocError>
-    ensures { IfOk result (λ line. string_bytes line ≡ refused_line name.now) }
+/// A fault of a file as it is printed: its code, its word, and the place or the number of bytes where it
+/// tells one. What isn't a fault of the file has no words.
+fn fault_words(alloc: Global, refusal: FrameRefusal) -> Result<String, AllocError>
+    ensures { IfOk result (λ text. IfSome (fault_of refusal) (λ fault. string_bytes text ≡ fault_words fault)) }
+{
+    match refusal {
+        FrameRefusal::NotPpm => String::from_str(alloc, "1 NotPpm"),
+        FrameRefusal::BadHeader(place) => format!(in alloc; "2 BadHeader {place}"),
+        FrameRefusal::HeaderTooLong => String::from_str(alloc, "3 HeaderTooLong"),
+        FrameRefusal::WrongMaxval => String::from_str(alloc, "4 WrongMaxval"),
+        FrameRefusal::WidthOutOfRange => String::from_str(alloc, "5 WidthOutOfRange"),
+        FrameRefusal::HeightOutOfRange => String::from_str(alloc, "6 HeightOutOfRange"),
+        FrameRefusal::SampleTooLarge(place) => format!(in alloc; "7 SampleTooLarge {place}"),
+        FrameRefusal::Truncated(seen) => format!(in alloc; "8 Truncated {seen}"),
+        FrameRefusal::TrailingBytes => String::from_str(alloc, "9 TrailingBytes"),
+        FrameRefusal::Source => Ok(String::new(alloc)),
+        FrameRefusal::Memory => Ok(String::new(alloc)),
+    }
+}
+
+/// The line of a file that is no frame, by its first fault.
+pub fn refused_line(alloc: Global, name: &str, refusal: FrameRefusal) -> Result<String, AllocError>
+    ensures { IfOk result (λ line. IfSome (fault_of refusal) (λ fault. string_bytes line ≡ refused_line name.now fault)) }
 {
     let name = escaped(alloc, name)?;
-    format!(in alloc; "refused {name} 90 NotPlain\n")
+    let fault = fault_words(alloc, refusal)?;
+    format!(in alloc; "refused {name} {fault}\n")
 }

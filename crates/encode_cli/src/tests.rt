@@ -17,6 +17,9 @@ const GREY: &[u8] = b"P6\n1 1\n4095\n\x08\x00\x08\x00\x08\x00";
 /// The same with 16 bits a sample.
 const DEEP: &[u8] = b"P6\n1 1\n65535\n\x08\x00\x08\x00\x08\x00";
 
+/// The same with a first sample of 4096.
+const LARGE: &[u8] = b"P6\n1 1\n4095\n\x10\x00\x08\x00\x08\x00";
+
 /// The codestream of a frame of one pixel, written out by hand from the tables of the standard.
 #[rattlefmt::skip]
 const CODESTREAM: &[u8] = &[
@@ -110,12 +113,14 @@ fn each_frame_has_its_output_and_its_line(rt: HostRuntime) -> Result<(), Fail> {
     files.push(file(alloc, "a", GREY)?)?;
     files.push(file(alloc, "e", DEEP)?)?;
     files.push(file(alloc, "f~", GREY)?)?;
+    files.push(file(alloc, "g", LARGE)?)?;
     let ended = run_over(alloc, COMMAND, files, &[], &[])?;
     assert_eq!(rt; ended.status, 1);
     assert_eq!(rt; ended.outputs.files().len(), 2);
     assert!(rt; is_file(ended.outputs.files().get(0), "a.j2c", CODESTREAM));
     assert!(rt; is_file(ended.outputs.files().get(1), "f~.j2c", CODESTREAM));
-    let said = format!(in alloc; "ok a {BUDGETS}\nrefused e 90 NotPlain\nok f%7E {BUDGETS}\n")?;
+    let first = format!(in alloc; "ok a {BUDGETS}\nrefused e 4 WrongMaxval\n")?;
+    let said = format!(in alloc; "{first}ok f%7E {BUDGETS}\nrefused g 7 SampleTooLarge 12\n")?;
     assert!(rt; ended.report.bytes() == said.as_bytes());
     Ok(())
 }

@@ -19,7 +19,7 @@ const SIZES: SizeLimits = SizeLimits {
 };
 
 /// Visits the frame at place `i`: where its file is a frame, writes its codestream and then says its line,
-/// else says that it is refused. Answers whether it is.
+/// else says its first fault. Answers whether it is refused.
 fn visit<F: Frames, O: Outputs, S: Report>(
     alloc: Global,
     i: u32,
@@ -54,12 +54,14 @@ fn visit<F: Frames, O: Outputs, S: Report>(
             write_frame(alloc, frames.name(i), &frame, outputs, report)?;
             Ok(false)
         }
-        Err(FrameRefusal::NotPlain) => {
-            refuse(alloc, frames.name(i), report)?;
-            Ok(true)
-        }
-        Err(FrameRefusal::Source) => Err(Stop::Source),
-        Err(FrameRefusal::Memory) => Err(Stop::Memory),
+        Err(refusal) => match refusal {
+            FrameRefusal::Source => Err(Stop::Source),
+            FrameRefusal::Memory => Err(Stop::Memory),
+            _ => {
+                refuse(alloc, frames.name(i), refusal, report)?;
+                Ok(true)
+            }
+        },
     }
 }
 

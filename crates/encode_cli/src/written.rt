@@ -1,9 +1,9 @@
 // What is written and said of one frame.
-ghost use Rattle.std.specs.Prelude.{Option, ◌≡◌, ◌≤◌, ◌++◌, [], ◌∷◌, false, map, option_map, Contains, OnOk, OnErr, IfOk, string_bytes, codes};
+ghost use Rattle.std.specs.Prelude.{Option, ◌≡◌, ◌≤◌, ◌++◌, [], ◌∷◌, false, map, option_map, Contains, OnOk, OnErr, IfOk, IfSome, string_bytes, codes};
 ghost use Rattle.std.specs.Option.{ForSome};
 ghost use Rattle.cine_ports.specs.Moves.{said_with};
 ghost use Rattle.cine_ports.specs.Outputs.{Kept};
-ghost use Rattle.pnm_frames.specs.Fault.{NotPlain};
+ghost use Rattle.pnm_frames.specs.Fault.{fault_of};
 ghost use Rattle.encode_cli.specs.Put.{kept_and};
 ghost use Rattle.encode_cli.specs.Stop.{HasStopCause, counts};
 ghost use Rattle.encode_cli.specs.Visit.{output_name, outputs_of, line_of, accepted, refused, BrokenOff};
@@ -13,7 +13,7 @@ use crate::lines::{ok_line, refused_line};
 use crate::put::put_output;
 use crate::stop::Stop;
 use cine_ports::{Outputs, Report, say};
-use pnm_frames::Frame;
+use pnm_frames::{Frame, FrameRefusal};
 use std::alloc::{AllocError, Global};
 
 /// The name of a frame's output.
@@ -63,15 +63,20 @@ pub fn write_frame<O: Outputs, S: Report>(
     }
 }
 
-/// Says the line of a frame that is refused.
-pub fn refuse<S: Report>(alloc: Global, name: &str, report: &mut S) -> Result<(), Stop>
-    ensures said { OnOk result (S.said report.new
-        ≡ option_map (said_with (line_of (refused name.now NotPlain))) (S.said report.old)) }
-    ensures err { (kept : Option Kept) → OnErr result (BrokenOff (refused name.now NotPlain)
-        (option_map (kept_and []) kept) (option_map (kept_and []) kept) (S.said report.old) (S.said report.new)) }
+/// Says the line of a file that is refused for its fault.
+pub fn refuse<S: Report>(
+    alloc: Global,
+    name: &str,
+    refusal: FrameRefusal,
+    report: &mut S,
+) -> Result<(), Stop>
+    ensures said { OnOk result (IfSome (fault_of refusal) (λ fault. S.said report.new
+        ≡ option_map (said_with (line_of (refused name.now fault))) (S.said report.old))) }
+    ensures err { (kept : Option Kept) → OnErr result (IfSome (fault_of refusal) (λ fault. BrokenOff (refused name.now fault)
+        (option_map (kept_and []) kept) (option_map (kept_and []) kept) (S.said report.old) (S.said report.new))) }
     ensures cause { HasStopCause (counts 0 0 (S.faults report.old)) (counts 0 0 (S.faults report.new)) result }
 {
-    let line = refused_line(alloc, name)?;
+    let line = refused_line(alloc, name, refusal)?;
     match say(report, line.as_bytes()) {
         Ok(()) => Ok(()),
         Err(fault) => Err(Stop::of_report(fault)),

@@ -1,6 +1,8 @@
 pub mod Keeping
-pub mod Texts
+pub mod Headers
 pub mod Planes
 pub mod Samples
-pub mod Numbers
 pub mod Files
+pub mod Laws
+pub mod Again
+pub mod FirstFault

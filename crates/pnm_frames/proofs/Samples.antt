@@ -1,11 +1,11 @@
 -- Samples in a file: read as they are spelled, and refused where one is missing or too large.
-use Rattle.std.proofs.Common.{◌≡◌, ℕ, zero, suc, ◌+◌, ◌*◌, ◌/◌, ◌%◌, ◌-◌, ◌<◌, ◌≤◌, Bool, true, false, List, [], ◌∷◌, ◌++◌, length, get_or, take, Result, Ok, Err, refl, sym, ap, ◌∙◌, inl, inr, append_assoc, arith, zero-add, add-zero, take_all, length-append}
+use Rattle.std.proofs.Common.{◌≡◌, ℕ, zero, suc, ◌+◌, ◌*◌, ◌/◌, ◌%◌, ◌-◌, ◌<◌, ◌≤◌, Bool, true, false, List, [], ◌∷◌, ◌++◌, length, get_or, take, drop, Result, Ok, Err, refl, sym, ap, ◌∙◌, inl, inr, append_assoc, arith, zero-add, add-zero, take_all, drop-cons, length-drop}
 use Rattle.std.specs.Prelude.{All}
 use Rattle.std.specs.List.{flat_map}
 use Rattle.std.proofs.Math.Dec.{leb}
-use Rattle.std.proofs.lemmas.Bool.{le-leb}
+use Rattle.std.proofs.lemmas.Bool.{le-leb, lt-leb}
 use Rattle.std.proofs.lemmas.Bool.Decides.{leb_tells}
-use Rattle.std.proofs.lemmas.List.{append-nil, length-take, length-take-le}
+use Rattle.std.proofs.lemmas.List.{append-nil, length-take-le}
 use Rattle.std.proofs.lemmas.List.Elements.{All-cons, All-append}
 use Rattle.std.proofs.lemmas.Slice.{take-put_mid}
 use borrow.Rule.Slice.PartMut.{put_mid}
@@ -13,8 +13,7 @@ use Rattle.std.proofs.Math.Nat.{mul-le-mul_left, mul-suc}
 use Rattle.byteorder.specs.Endian.{IsRead, big_number}
 use Rattle.std.proofs.lemmas.Grind.{flat_map-append}
 use Rattle.pnm_frames.specs.declared.refusal.FrameRefusal.{FrameRefusal}
-use Rattle.pnm_frames.specs.declared.refusal.FrameRefusal.TheVariants as refusals
-use Rattle.pnm_frames.specs.Fault.{Fault, NotPlain, ◌>>=◌, Fails}
+use Rattle.pnm_frames.specs.Fault.{Fault, SampleTooLarge, Truncated, ◌>>=◌, Fails}
 use Rattle.pnm_frames.specs.Picture.{IsSample, interleaved, sample}
 use Rattle.pnm_frames.specs.Reading.{samples_at}
 use Rattle.pnm_frames.proofs.Planes.{interleaved-append, length-interleaved}
@@ -25,69 +24,107 @@ IsBytes bytes = (i : ℕ) → get_or bytes i 0 < 256
 abbrev pub with_front : List ℕ → Result (List ℕ × List ℕ) Fault → Result (List ℕ × List ℕ) Fault
 with_front front read = read >>= λ r. Ok (front ++ r.0, r.1)
 
--- too few bytes
-pub samples-short : (n : ℕ) (bytes : List ℕ) → length bytes < 2 * n → samples_at n bytes ≡ Err NotPlain
-samples-short zero bytes lt = absurd (omega arith)
-samples-short (suc n) [] lt = refl
-samples-short (suc n) (high ∷ []) lt = refl
-samples-short (suc n) (high ∷ low ∷ bytes) lt =
-    let shorter : length bytes < 2 * n = omega arith in
-    let rest = samples-short n bytes shorter in
-    elim (leb_tells (256 * high + low) 4095) [
-      | inl fits ↦ rw (fits.0, rest) refl
-      | inr large ↦ rw large.0 refl
-    ]
-
 -- a sample's two bytes are worth the sample
 worth : (s : ℕ) → 256 * (s / 256) + s % 256 ≡ s
 worth s = omega arith
 
+pushed : (a : ℕ) (s : List ℕ) (r : Result (List ℕ × List ℕ) Fault) → with_front (a ∷ []) (with_front s r) ≡ with_front (a ∷ s) r
+pushed a s (Ok x) = refl
+pushed a s (Err e) = refl
+
+same-front : (r : Result (List ℕ × List ℕ) Fault) → r ≡ with_front [] r
+same-front (Ok x) = refl
+same-front (Err e) = refl
+
 -- samples in front that fit
-pub samples-then : (s : List ℕ) (n : ℕ) (bytes : List ℕ) → All IsSample s → samples_at (length s + n) (flat_map sample s ++ bytes) ≡ with_front s (samples_at n bytes)
-samples-then [] n bytes fits = rw zero-add (same (samples_at n bytes))
-  where
-    same : (r : Result (List ℕ × List ℕ) Fault) → r ≡ with_front [] r
-    same (Ok x) = refl
-    same (Err e) = refl
-samples-then (a ∷ s) n bytes fits =
+pub samples-then : (s : List ℕ) (n at : ℕ) (bytes : List ℕ) → All IsSample s → samples_at (length s + n) at (flat_map sample s ++ bytes) ≡ with_front s (samples_at n (at + 2 * length s) bytes)
+samples-then [] n at bytes fits =
+    let place : at + 2 * 0 ≡ at = omega arith in
+    rw (zero-add, place) (same-front (samples_at n at bytes))
+samples-then (a ∷ s) n at bytes fits =
     let one : leb (256 * (a / 256) + a % 256) 4095 ≡ true = le-leb _ _ (omega (arith, fits 0 0)) in
     let count : suc (length s) + n ≡ suc (length s + n) = omega arith in
-    let rest : samples_at (length s + n) (flat_map sample s ++ bytes) ≡ with_front s (samples_at n bytes) = samples-then s n bytes (λ k d lt. fits (suc k) d (omega arith)) in
-    rw (count, one, rest, worth a) (pushed a s (samples_at n bytes))
-  where
-    pushed : (a : ℕ) (s : List ℕ) (r : Result (List ℕ × List ℕ) Fault) → (with_front s r >>= λ read. Ok (a ∷ read.0, read.1)) ≡ with_front (a ∷ s) r
-    pushed a s (Ok x) = refl
-    pushed a s (Err e) = refl
+    let place : suc (suc at) + 2 * length s ≡ at + 2 * suc (length s) = omega arith in
+    let rest : samples_at (length s + n) (suc (suc at)) (flat_map sample s ++ bytes) ≡ with_front s (samples_at n (at + 2 * suc (length s)) bytes) =
+    rw place at (samples-then s n (suc (suc at)) bytes (λ k d lt. fits (suc k) d (omega arith))) in
+    rw (count, one, rest, worth a) (pushed a s (samples_at n (at + 2 * suc (length s)) bytes))
 
--- samples of which not all fit
-pub samples-large : (s : List ℕ) (bytes : List ℕ) → (All IsSample s → ⊥) → samples_at (length s) (flat_map sample s ++ bytes) ≡ Err NotPlain
-samples-large [] bytes large = absurd (large (λ k d lt. absurd (omega arith)))
-samples-large (a ∷ s) bytes large =
+-- samples that fit, and nothing asked for behind them
+pub samples-again : (s rest : List ℕ) (at : ℕ) → All IsSample s → samples_at (length s) at (flat_map sample s ++ rest) ≡ Ok (s, rest)
+samples-again s rest at fits =
+    let e : samples_at (length s + 0) at (flat_map sample s ++ rest) ≡ Ok (s ++ [], rest) = samples-then s 0 at rest fits in
+    rw (add-zero, append-nil s) at e
+
+-- samples of which not all fit are refused alike, whatever follows
+pub samples-large : (s : List ℕ) (n m at : ℕ) (bytes others : List ℕ) → (All IsSample s → ⊥) → samples_at (length s + n) at (flat_map sample s ++ bytes) ≡ samples_at (length s + m) at (flat_map sample s ++ others)
+samples-large [] n m at bytes others large = absurd (large (λ k d lt. absurd (omega arith)))
+samples-large (a ∷ s) n m at bytes others large =
+    let count : suc (length s) + n ≡ suc (length s + n) = omega arith in
+    let counts : suc (length s) + m ≡ suc (length s + m) = omega arith in
     elim (leb_tells (256 * (a / 256) + a % 256) 4095) [
       | inl fits ↦
           let a_fits : IsSample a = omega (arith, worth a, fits.1) in
-          let rest = samples-large s bytes (λ others. large (All-cons IsSample a s a_fits others)) in
-          rw (fits.0, rest) refl
-      | inr big ↦ rw big.0 refl
+          let rest = samples-large s n m (suc (suc at)) bytes others (λ all. large (All-cons IsSample a s a_fits all)) in
+          rw (count, counts, fits.0, rest) refl
+      | inr big ↦ rw (count, counts, big.0) refl
     ]
 
+within : (r : Result (List ℕ × List ℕ) Fault) (a : ℕ) (fault : Fault) → with_front (a ∷ []) r ≡ Err fault → r ≡ Err fault
+within (Ok x) a fault e = absurd cc
+within (Err f) a fault e = e
+
 -- what is refused at first is refused with more asked for
-pub samples-refused : (n m : ℕ) (bytes : List ℕ) → samples_at n bytes ≡ Err NotPlain → samples_at (n + m) bytes ≡ Err NotPlain
-samples-refused zero m bytes e = absurd (cc)
-samples-refused (suc n) m [] e = let count : suc n + m ≡ suc (n + m) = omega arith in rw count refl
-samples-refused (suc n) m (high ∷ []) e = let count : suc n + m ≡ suc (n + m) = omega arith in rw count refl
-samples-refused (suc n) m (high ∷ low ∷ bytes) e =
+pub samples-refused : (n m at : ℕ) (bytes : List ℕ) (fault : Fault) → samples_at n at bytes ≡ Err fault → samples_at (n + m) at bytes ≡ Err fault
+samples-refused zero m at bytes fault e = absurd (cc)
+samples-refused (suc n) m at [] fault e = let count : suc n + m ≡ suc (n + m) = omega arith in rw count e
+samples-refused (suc n) m at (high ∷ []) fault e = let count : suc n + m ≡ suc (n + m) = omega arith in rw count e
+samples-refused (suc n) m at (high ∷ low ∷ bytes) fault e =
     let count : suc n + m ≡ suc (n + m) = omega arith in
     elim (leb_tells (256 * high + low) 4095) [
       | inl fits ↦
-          let rest = samples-refused n m bytes (within (samples_at n bytes) (256 * high + low) (sym (rw fits.0 refl) ∙ e)) in
+          let rest = samples-refused n m (suc (suc at)) bytes fault (within (samples_at n (suc (suc at)) bytes) (256 * high + low) fault (rw fits.0 at e)) in
           rw (count, fits.0, rest) refl
-      | inr big ↦ rw (count, big.0) refl
+      | inr big ↦ rw (count, big.0) (rw big.0 at e)
     ]
+
+-- ---- the first fault of a row, sample by sample
+
+pub fault-on : (bytes : List ℕ) (i count at : ℕ) (fault : Fault) → 2 * i + 1 < length bytes → i < count → 256 * get_or bytes (2 * i) 0 + get_or bytes (2 * i + 1) 0 ≤ 4095
+    → samples_at (count - (i + 1)) (at + 2 * (i + 1)) (drop (2 * (i + 1)) bytes) ≡ Err fault → samples_at (count - i) (at + 2 * i) (drop (2 * i) bytes) ≡ Err fault
+fault-on bytes i count at fault room lt fits e =
+    let more : count - i ≡ suc (count - (i + 1)) = omega arith in
+    let place : at + 2 * (i + 1) ≡ suc (suc (at + 2 * i)) = omega arith in
+    let front : 2 * (i + 1) ≡ suc (suc (2 * i)) = omega arith in
+    let second : 2 * i + 1 ≡ suc (2 * i) = omega arith in
+    let test : leb (256 * get_or bytes (2 * i) 0 + get_or bytes (suc (2 * i)) 0) 4095 ≡ true = le-leb _ _ (rw second at fits) in
+    rw (more, drop-cons bytes (2 * i) 0 (omega arith), drop-cons bytes (suc (2 * i)) 0 (omega arith), test, rw (place, front) at e) refl
+
+pub fault-large : (bytes : List ℕ) (i count at : ℕ) → 2 * i + 1 < length bytes → i < count → 4095 < 256 * get_or bytes (2 * i) 0 + get_or bytes (2 * i + 1) 0
+    → samples_at (count - i) (at + 2 * i) (drop (2 * i) bytes) ≡ Err (SampleTooLarge (at + 2 * i))
+fault-large bytes i count at room lt large =
+    let more : count - i ≡ suc (count - (i + 1)) = omega arith in
+    let second : 2 * i + 1 ≡ suc (2 * i) = omega arith in
+    let test : leb (256 * get_or bytes (2 * i) 0 + get_or bytes (suc (2 * i)) 0) 4095 ≡ false = lt-leb _ _ (rw second at large) in
+    rw (more, drop-cons bytes (2 * i) 0 (omega arith), drop-cons bytes (suc (2 * i)) 0 (omega arith), test) refl
+
+tail-short : (n at : ℕ) (tail : List ℕ) → length tail < 2 → samples_at (suc n) at tail ≡ Err (Truncated (at + length tail))
+tail-short n at [] lt = ap (λ (k : ℕ). short k) (let e : at ≡ at + 0 = omega arith in e)
   where
-    within : (r : Result (List ℕ × List ℕ) Fault) (a : ℕ) → with_front (a ∷ []) r ≡ Err NotPlain → r ≡ Err NotPlain
-    within (Ok x) a e = absurd cc
-    within (Err f) a e = e
+    short : ℕ → Result (List ℕ × List ℕ) Fault
+    short k = Err (Truncated k)
+tail-short n at (b ∷ []) lt = ap (λ (k : ℕ). short k) (let e : suc at ≡ at + 1 = omega arith in e)
+  where
+    short : ℕ → Result (List ℕ × List ℕ) Fault
+    short k = Err (Truncated k)
+tail-short n at (a ∷ b ∷ tail) lt = absurd (omega arith)
+
+pub fault-short : (bytes : List ℕ) (i count at : ℕ) → length bytes < 2 * i + 2 → 2 * i ≤ length bytes → length bytes < 2 * count
+    → samples_at (count - i) (at + 2 * i) (drop (2 * i) bytes) ≡ Err (Truncated (at + length bytes))
+fault-short bytes i count at few enough lt =
+    let more : count - i ≡ suc (count - (i + 1)) = omega arith in
+    let rest : length (drop (2 * i) bytes) ≡ length bytes - 2 * i = length-drop (2 * i) bytes in
+    let seen : at + 2 * i + length (drop (2 * i) bytes) ≡ at + length bytes = omega arith in
+    rw more (rw seen at (tail-short (count - (i + 1)) (at + 2 * i) (drop (2 * i) bytes) (omega arith)))
 
 -- Numbers that were read from bytes two at a time are spelled by these bytes.
 pub decoded : (values : List ℕ) (bytes : List ℕ) → length bytes ≡ 2 * length values → IsBytes bytes → IsRead big_number 2 bytes values → bytes ≡ flat_map sample values
@@ -106,42 +143,40 @@ decoded (v ∷ values) (high ∷ low ∷ bytes) len fits read =
     let rest : bytes ≡ flat_map sample values = decoded values bytes shorter (λ i. fits (suc (suc i))) next in
     rw (high-is, low-is) (ap (λ (more : List ℕ). high ∷ low ∷ more) rest)
 
--- samples that fit, and nothing asked for behind them
-pub samples-again : (s rest : List ℕ) → All IsSample s → samples_at (length s) (flat_map sample s ++ rest) ≡ Ok (s, rest)
-samples-again s rest fits =
-    let e : samples_at (length s + 0) (flat_map sample s ++ rest) ≡ Ok (s ++ [], rest) = samples-then s 0 rest fits in
-    rw (add-zero, append-nil s) at e
-
 -- ---- a row, which came as the first n bytes of a buffer
-
-pub row-short : (n count : ℕ) (left buf rest : List ℕ) → left ≡ take n buf ++ rest → rest ≡ [] → n < 2 * count → samples_at count left ≡ Err NotPlain
-row-short n count left buf rest moved ended lt =
-    let few : length left < 2 * count = omega (arith, ap length moved, ap length ended, length-append (take n buf) rest, length-take n buf) in
-    samples-short count left few
 
 pub row-spelled : (n : ℕ) (left buf rest values : List ℕ) → left ≡ take n buf ++ rest → length buf ≤ n → buf ≡ flat_map sample values → left ≡ flat_map sample values ++ rest
 row-spelled n left buf rest values moved whole spelled =
     moved ∙ ap (λ (bytes : List ℕ). bytes ++ rest) (take_all n buf whole ∙ spelled)
 
-pub row-read : (count : ℕ) (left rest values : List ℕ) → length values ≡ count → left ≡ flat_map sample values ++ rest → All IsSample values → samples_at count left ≡ Ok (values, rest)
-row-read count left rest values len spelled fits = rw (← len, spelled) (samples-again values rest fits)
+pub row-read : (count at : ℕ) (left rest values : List ℕ) → length values ≡ count → left ≡ flat_map sample values ++ rest → All IsSample values → samples_at count at left ≡ Ok (values, rest)
+row-read count at left rest values len spelled fits = rw (← len, spelled) (samples-again values rest at fits)
 
-pub row-large : (count : ℕ) (left rest values : List ℕ) → length values ≡ count → left ≡ flat_map sample values ++ rest → (All IsSample values → ⊥) → samples_at count left ≡ Err NotPlain
-row-large count left rest values len spelled large = rw (← len, spelled) (samples-large values rest large)
+-- all that is left is too short
+pub row-short : (e : FrameRefusal) (n count at : ℕ) (left buf rest : List ℕ) → left ≡ take n buf ++ rest → rest ≡ [] → Fails e (samples_at count at (take n buf)) → Fails e (samples_at count at left)
+row-short e n count at left buf rest moved ended fails =
+    let same : left ≡ take n buf = moved ∙ ap (λ (r : List ℕ). take n buf ++ r) ended ∙ append-nil (take n buf) in
+    rw same fails
+
+-- not all that was read fits
+pub row-large : (e : FrameRefusal) (count at : ℕ) (left buf rest values : List ℕ) → length values ≡ count → left ≡ flat_map sample values ++ rest → buf ≡ flat_map sample values → (All IsSample values → ⊥)
+    → Fails e (samples_at (count + 1) at buf) → Fails e (samples_at count at left)
+row-large e count at left buf rest values len spelled whole large fails =
+    let same : samples_at (count + 1) at buf ≡ samples_at count at left =
+    rw (← len, spelled, whole) (ap (samples_at (length values + 1) at) (sym (append-nil (flat_map sample values)))
+    ∙ samples-large values 1 0 at [] rest large ∙ ap (λ (k : ℕ). samples_at k at (flat_map sample values ++ rest)) (add-zero (length values))) in
+    rw (← same) fails
 
 -- ---- rows of three planes
 
 -- a row that is refused refuses all
-pub rows-refused : (total row : ℕ) (s before left : List ℕ) → before ≡ flat_map sample s ++ left → All IsSample s → length s + row ≤ total → samples_at row left ≡ Err NotPlain → samples_at total before ≡ Err NotPlain
-rows-refused total row s before left spelled fits le refused =
+pub rows-refused : (total row at place : ℕ) (s before left : List ℕ) (fault : Fault) → before ≡ flat_map sample s ++ left → All IsSample s → length s + row ≤ total → place ≡ at + 2 * length s
+    → samples_at row place left ≡ Err fault → samples_at total at before ≡ Err fault
+rows-refused total row at place s before left fault spelled fits le here refused =
     let parts : total ≡ length s + (row + (total - (length s + row))) = omega arith in
-    let rest : samples_at (row + (total - (length s + row))) left ≡ Err NotPlain = samples-refused row (total - (length s + row)) left refused in
-    rw (parts, spelled, samples-then s (row + (total - (length s + row))) left fits, rest) refl
-
-pub rows-fail : (e : FrameRefusal) (total row : ℕ) (s before left : List ℕ) → before ≡ flat_map sample s ++ left → All IsSample s → length s + row ≤ total → Fails e (samples_at row left) → Fails e (samples_at total before)
-rows-fail refusals.NotPlain total row s before left spelled fits le refused = rows-refused total row s before left spelled fits le refused
-rows-fail refusals.Source total row s before left spelled fits le refused = tt
-rows-fail refusals.Memory total row s before left spelled fits le refused = tt
+    let rest : samples_at (row + (total - (length s + row))) (at + 2 * length s) left ≡ Err fault =
+    samples-refused row (total - (length s + row)) (at + 2 * length s) left fault (rw here at refused) in
+    rw (parts, spelled, samples-then s (row + (total - (length s + row))) at left fits, rest) refl
 
 -- a further row
 pub rows-more : (xs ys zs us vs ws row before left rest : List ℕ) → length ys ≡ length xs → length zs ≡ length xs
@@ -205,3 +240,7 @@ length-read start x y z sx sy sz =
       length-interleaved (take start x) (take start y) (take start z)
           (omega (arith, length-take-le start x sx, length-take-le start y sy)) (omega (arith, length-take-le start x sx, length-take-le start z sz)),
     )
+
+-- the pixels of the largest frame
+pub area : (w h : ℕ) → w ≤ 4096 → h ≤ 2160 → w * h ≤ 4096 * 2160
+area w h wide tall = let m : w * h ≤ w * 2160 = mul-le-mul_left w tall in omega (arith, m)

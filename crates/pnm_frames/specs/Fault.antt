@@ -1,12 +1,29 @@
 -- What is wrong with the bytes of a frame, and what a call answers.
-use Rattle.std.specs.Prelude.{ℕ, ◌≡◌, Result, Ok, Err}
+use Rattle.std.specs.Prelude.{ℕ, ◌≡◌, Option, Some, None, IfSome, Result, Ok, Err}
 use Rattle.cine_ports.specs.Cause.{Rose}
 use Rattle.pnm_frames.specs.declared.refusal.FrameRefusal.{FrameRefusal}
 use Rattle.pnm_frames.specs.declared.refusal.FrameRefusal.TheVariants as refusals
 
--- the bytes aren't those of a plain file
+-- Places count the bytes of the file from 0.
 pub data Fault : Type 0 where
-  NotPlain : Fault
+  -- byte 0 isn't `P`, or byte 1 isn't `6`
+  NotPpm : Fault
+  -- the header byte at the place isn't allowed there
+  BadHeader : (place : ℕ) → Fault
+  -- the longest header doesn't suffice
+  HeaderTooLong : Fault
+  -- the maxval isn't 4095
+  WrongMaxval : Fault
+  -- the width is 0 or above its limit
+  WidthOutOfRange : Fault
+  -- the height is 0 or above its limit
+  HeightOutOfRange : Fault
+  -- the sample whose first byte is at the place is above 4095
+  SampleTooLarge : (place : ℕ) → Fault
+  -- the file has so many bytes, and a further one is needed
+  Truncated : (seen : ℕ) → Fault
+  -- a byte follows the raster
+  TrailingBytes : Fault
 
 -- what a step gives goes into the next one, and the first fault stands
 infixl 10 ◌>>=◌
@@ -14,11 +31,23 @@ abbrev pub ◌>>=◌ : {A B : Type 0} → Result A Fault → (A → Result B Fau
 (Ok x) >>= f = f x
 (Err e) >>= f = Err e
 
+-- the fault that a refusal tells, if it speaks of the bytes
+abbrev pub fault_of : FrameRefusal → Option Fault
+fault_of refusals.NotPpm = Some NotPpm
+fault_of (refusals.BadHeader place) = Some (BadHeader place)
+fault_of refusals.HeaderTooLong = Some HeaderTooLong
+fault_of refusals.WrongMaxval = Some WrongMaxval
+fault_of refusals.WidthOutOfRange = Some WidthOutOfRange
+fault_of refusals.HeightOutOfRange = Some HeightOutOfRange
+fault_of (refusals.SampleTooLarge place) = Some (SampleTooLarge place)
+fault_of (refusals.Truncated seen) = Some (Truncated seen)
+fault_of refusals.TrailingBytes = Some TrailingBytes
+fault_of refusals.Source = None
+fault_of refusals.Memory = None
+
 -- A call is refused by the fault that reading gives, or by what no bytes tell.
 abbrev pub Fails : {Y : Type 0} → FrameRefusal → Result Y Fault → Type 0
-Fails refusals.NotPlain read = read ≡ Err NotPlain
-Fails refusals.Source read = Unit {0}
-Fails refusals.Memory read = Unit {0}
+Fails refusal read = IfSome (fault_of refusal) (λ fault. read ≡ Err fault)
 
 -- What a call answers, seen by view, is what reading gives, unless the source fails or memory is wanting.
 abbrev pub Gives : {X Y : Type 0} → (X → Y) → Result X FrameRefusal → Result Y Fault → Type 0
@@ -26,8 +55,61 @@ Gives view (Ok x) read = read ≡ Ok (view x)
 Gives view (Err e) read = Fails e read
 
 -- A call is refused as Source only where the count of faults rose in it; any other answer leaves the count.
+abbrev pub CauseOf : FrameRefusal → ℕ → ℕ → Type 0
+CauseOf refusals.Source before now = Rose before now
+CauseOf refusals.NotPpm before now = now ≡ before
+CauseOf (refusals.BadHeader place) before now = now ≡ before
+CauseOf refusals.HeaderTooLong before now = now ≡ before
+CauseOf refusals.WrongMaxval before now = now ≡ before
+CauseOf refusals.WidthOutOfRange before now = now ≡ before
+CauseOf refusals.HeightOutOfRange before now = now ≡ before
+CauseOf (refusals.SampleTooLarge place) before now = now ≡ before
+CauseOf (refusals.Truncated seen) before now = now ≡ before
+CauseOf refusals.TrailingBytes before now = now ≡ before
+CauseOf refusals.Memory before now = now ≡ before
+
 abbrev pub HasFrameCause : {T : Type 0} → ℕ → ℕ → Result T FrameRefusal → Type 0
 HasFrameCause before now (Ok value) = now ≡ before
-HasFrameCause before now (Err refusals.Source) = Rose before now
-HasFrameCause before now (Err refusals.NotPlain) = now ≡ before
-HasFrameCause before now (Err refusals.Memory) = now ≡ before
+HasFrameCause before now (Err e) = CauseOf e before now
+
+-- a refusal that a header gives
+abbrev pub IsOfHeader : FrameRefusal → Type 0
+IsOfHeader (refusals.SampleTooLarge place) = ⊥
+IsOfHeader refusals.TrailingBytes = ⊥
+IsOfHeader refusals.Memory = ⊥
+IsOfHeader refusals.NotPpm = Unit {0}
+IsOfHeader (refusals.BadHeader place) = Unit {0}
+IsOfHeader refusals.HeaderTooLong = Unit {0}
+IsOfHeader refusals.WrongMaxval = Unit {0}
+IsOfHeader refusals.WidthOutOfRange = Unit {0}
+IsOfHeader refusals.HeightOutOfRange = Unit {0}
+IsOfHeader (refusals.Truncated seen) = Unit {0}
+IsOfHeader refusals.Source = Unit {0}
+
+-- a refusal that a row gives
+abbrev pub IsOfRow : FrameRefusal → Type 0
+IsOfRow (refusals.SampleTooLarge place) = Unit {0}
+IsOfRow (refusals.Truncated seen) = Unit {0}
+IsOfRow refusals.Source = Unit {0}
+IsOfRow refusals.NotPpm = ⊥
+IsOfRow (refusals.BadHeader place) = ⊥
+IsOfRow refusals.HeaderTooLong = ⊥
+IsOfRow refusals.WrongMaxval = ⊥
+IsOfRow refusals.WidthOutOfRange = ⊥
+IsOfRow refusals.HeightOutOfRange = ⊥
+IsOfRow refusals.TrailingBytes = ⊥
+IsOfRow refusals.Memory = ⊥
+
+-- a refusal that the end of a file gives
+abbrev pub IsOfEnd : FrameRefusal → Type 0
+IsOfEnd refusals.TrailingBytes = Unit {0}
+IsOfEnd refusals.Source = Unit {0}
+IsOfEnd refusals.NotPpm = ⊥
+IsOfEnd (refusals.BadHeader place) = ⊥
+IsOfEnd refusals.HeaderTooLong = ⊥
+IsOfEnd refusals.WrongMaxval = ⊥
+IsOfEnd refusals.WidthOutOfRange = ⊥
+IsOfEnd refusals.HeightOutOfRange = ⊥
+IsOfEnd (refusals.SampleTooLarge place) = ⊥
+IsOfEnd (refusals.Truncated seen) = ⊥
+IsOfEnd refusals.Memory = ⊥

@@ -1,7 +1,6 @@
--- A picture of three planes, and the bytes of its plain file: ppm(5), magic P6, maxval 4095.
-use Rattle.std.specs.Prelude.{ℕ, ◌≡◌, ◌≤◌, ◌*◌, ◌/◌, ◌%◌, List, [], ◌∷◌, ◌++◌, length, All, codes}
+-- A picture of three planes, and its raster in a file (ppm(5), magic P6, maxval 4095).
+use Rattle.std.specs.Prelude.{ℕ, ◌≡◌, ◌≤◌, ◌*◌, ◌/◌, ◌%◌, List, [], ◌∷◌, length, All}
 use Rattle.std.specs.List.{flat_map}
-use Rattle.std.specs.Fmt.{decimal}
 use Rattle.pnm_frames.specs.declared.limits.SizeLimits.{SizeLimits}
 
 -- a width, a height, and the samples of each plane row by row
@@ -52,12 +51,3 @@ interleaved (x ∷ xs) (y ∷ ys) (z ∷ zs) = x ∷ y ∷ z ∷ interleaved xs 
 -- the samples of all pixels, row by row
 abbrev pub raster : Picture → List ℕ
 raster p = flat_map sample (interleaved p.x p.y p.z)
-
--- the magic number, width and height, and the maxval, with the white space behind each
-abbrev pub header : ℕ → ℕ → List ℕ
-header width height =
-    codes "P6\n" ++ (decimal width ++ (codes " " ++ (decimal height ++ (codes "\n" ++ codes "4095\n"))))
-
--- the plain file of a picture
-abbrev pub spelling : Picture → List ℕ
-spelling p = header p.width p.height ++ raster p

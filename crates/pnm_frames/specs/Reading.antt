@@ -1,34 +1,90 @@
--- Reading a plain file from left to right: the picture that its bytes spell, or that they spell none.
-use Rattle.std.specs.Prelude.{ℕ, zero, suc, ◌+◌, ◌*◌, ◌-◌, List, [], ◌∷◌, Result, Ok, Err, nat_le, ◌==◌, ◌&&◌, if◌then◌else◌, codes}
+-- Reading a file from left to right: the picture that its bytes spell, or the first fault.
+use Rattle.std.specs.Prelude.{ℕ, zero, suc, ◌+◌, ◌*◌, ◌-◌, ◌^◌, min, List, [], ◌∷◌, Option, Some, None, Result, Ok, Err, nat_lt, nat_le, ◌==◌, ◌&&◌, if◌then◌else◌}
 use Rattle.std.specs.Char.{is_ascii_digit}
 use Rattle.pnm_frames.specs.declared.limits.SizeLimits.{SizeLimits}
-use Rattle.pnm_frames.specs.Fault.{Fault, NotPlain, ◌>>=◌}
+use Rattle.pnm_frames.specs.Fault.{Fault, NotPpm, BadHeader, HeaderTooLong, WrongMaxval, WidthOutOfRange, HeightOutOfRange, SampleTooLarge, Truncated, TrailingBytes, ◌>>=◌}
+use Rattle.pnm_frames.specs.Grammar.{is_white, header_limit}
 use Rattle.pnm_frames.specs.Picture.{Picture}
 
--- what stands behind a text
-abbrev pub after : List ℕ → List ℕ → Result (List ℕ) Fault
-after [] bytes = Ok bytes
-after (c ∷ text) [] = Err NotPlain
-after (c ∷ text) (b ∷ bytes) = if b == c then after text bytes else Err NotPlain
+-- a value, and where reading goes on: the next place and the bytes from there
+abbrev pub Read : Type 0 → Type 0
+Read A = Result (A × ℕ × List ℕ) Fault
 
--- A number from 1 to a limit, of which the digits so far are worth n, and what stands behind the byte that ends it.
-abbrev pub number_at : ℕ → ℕ → ℕ → List ℕ → Result (ℕ × List ℕ) Fault
-number_at limit end n [] = Err NotPlain
-number_at limit end n (b ∷ bytes) =
-    if is_ascii_digit b
-    then (if nat_le 1 (10 * n + (b - 48)) && nat_le (10 * n + (b - 48)) limit
-    then number_at limit end (10 * n + (b - 48)) bytes else Err NotPlain)
-    else (if b == end && nat_le 1 n then Ok (n, bytes) else Err NotPlain)
+-- one more header byte is needed at the end of a file
+abbrev pub ended_at : {A : Type 0} → ℕ → Read A
+ended_at at = if nat_lt at header_limit then Err (Truncated at) else Err HeaderTooLong
 
--- so many samples, and what stands behind them
-abbrev pub samples_at : ℕ → List ℕ → Result (List ℕ × List ℕ) Fault
-samples_at zero bytes = Ok ([], bytes)
-samples_at (suc n) [] = Err NotPlain
-samples_at (suc n) (high ∷ []) = Err NotPlain
-samples_at (suc n) (high ∷ low ∷ bytes) =
+-- the next byte of a header
+abbrev pub byte_at : ℕ → List ℕ → Read ℕ
+byte_at at [] = ended_at at
+byte_at at (b ∷ bytes) = if nat_lt at header_limit then Ok (b, suc at, bytes) else Err HeaderTooLong
+
+-- `P6` and one white space byte
+unfoldable pub magic_at : ℕ → List ℕ → Read (Unit {0})
+magic_at at bytes = do
+  first ← byte_at at bytes
+  second ← if first.0 == 80 then byte_at first.1 first.2 else Err NotPpm
+  gap ← if second.0 == 54 then byte_at second.1 second.2 else Err NotPpm
+  if is_white gap.0 then Ok (tt, gap.1, gap.2) else Err (BadHeader second.1)
+
+-- further white space, and the byte behind it
+abbrev pub white_at : ℕ → List ℕ → Read ℕ
+white_at at [] = ended_at at
+white_at at (b ∷ bytes) =
+    if nat_lt at header_limit
+    then (if is_white b then white_at (suc at) bytes else Ok (b, suc at, bytes))
+    else Err HeaderTooLong
+
+-- further digits of a number, which is worth n so far, and the white space byte that ends it
+abbrev pub digits_at : ℕ → ℕ → List ℕ → Read ℕ
+digits_at n at [] = ended_at at
+digits_at n at (b ∷ bytes) =
+    if nat_lt at header_limit
+    then (if is_white b then Ok (n, suc at, bytes)
+    else (if is_ascii_digit b then digits_at (10 * n + (b - 48)) (suc at) bytes else Err (BadHeader at)))
+    else Err HeaderTooLong
+
+-- a number of 2^32 or more as 2^32
+abbrev pub capped : Read ℕ → Read ℕ
+capped number = number >>= λ read. Ok (min read.0 (2 ^ 32), read.1, read.2)
+
+-- the rest of a gap, a number, and the white space byte that ends it
+unfoldable pub number_at : ℕ → List ℕ → Read ℕ
+number_at at bytes = do
+  first ← white_at at bytes
+  if is_ascii_digit first.0 then digits_at (first.0 - 48) first.1 first.2 else Err (BadHeader (first.1 - 1))
+
+-- the same number, and whether it is within a range
+unfoldable pub ranged_at : ℕ → ℕ → ℕ → List ℕ → Read (Option ℕ)
+ranged_at low high at bytes = do
+  number ← number_at at bytes
+  Ok ((if nat_le low number.0 && nat_le number.0 high then Some number.0 else None), number.1, number.2)
+
+abbrev pub or_fault : {A : Type 0} → Fault → Option A → Result A Fault
+or_fault fault None = Err fault
+or_fault fault (Some x) = Ok x
+
+-- width and height, each judged at the byte that ends it, and the maxval
+unfoldable pub header_at : SizeLimits → List ℕ → Read (ℕ × ℕ)
+header_at limits bytes = do
+  magic ← magic_at 0 bytes
+  width ← ranged_at 1 limits.width magic.1 magic.2
+  w ← or_fault WidthOutOfRange width.0
+  height ← ranged_at 1 limits.height width.1 width.2
+  h ← or_fault HeightOutOfRange height.0
+  maxval ← ranged_at 4095 4095 height.1 height.2
+  m ← or_fault WrongMaxval maxval.0
+  Ok ((w, h), maxval.1, maxval.2)
+
+-- so many samples, each judged when both its bytes are there
+abbrev pub samples_at : ℕ → ℕ → List ℕ → Result (List ℕ × List ℕ) Fault
+samples_at zero at bytes = Ok ([], bytes)
+samples_at (suc n) at [] = Err (Truncated at)
+samples_at (suc n) at (high ∷ []) = Err (Truncated (suc at))
+samples_at (suc n) at (high ∷ low ∷ bytes) =
     if nat_le (256 * high + low) 4095
-    then (samples_at n bytes >>= λ read. Ok ((256 * high + low) ∷ read.0, read.1))
-    else Err NotPlain
+    then (samples_at n (suc (suc at)) bytes >>= λ read. Ok ((256 * high + low) ∷ read.0, read.1))
+    else Err (SampleTooLarge at)
 
 -- one sample of each pixel
 abbrev pub plane_of : (ℕ → ℕ → ℕ → ℕ) → List ℕ → List ℕ
@@ -37,28 +93,19 @@ plane_of pick (x ∷ []) = []
 plane_of pick (x ∷ y ∷ []) = []
 plane_of pick (x ∷ y ∷ z ∷ samples) = pick x y z ∷ plane_of pick samples
 
--- the width and the height, and what stands behind the header
-unfoldable pub header_at : SizeLimits → List ℕ → Result (ℕ × ℕ × List ℕ) Fault
-header_at limits bytes = do
-  sizes ← after (codes "P6\n") bytes
-  width ← number_at limits.width 32 0 sizes
-  height ← number_at limits.height 10 0 width.1
-  rest ← after (codes "4095\n") height.1
-  Ok (width.0, height.0, rest)
-
 -- nothing more
 abbrev pub ended : {A : Type 0} → A → List ℕ → Result A Fault
 ended value [] = Ok value
-ended value (b ∷ bytes) = Err NotPlain
+ended value (b ∷ bytes) = Err TrailingBytes
 
 -- the picture of all the bytes
 unfoldable pub frame_of : SizeLimits → List ℕ → Result Picture Fault
 frame_of limits bytes = do
   header ← header_at limits bytes
-  samples ← samples_at (3 * (header.0 * header.1)) header.2
+  samples ← samples_at (3 * (header.0.0 * header.0.1)) header.1 header.2
   ended (record {
-    width = header.0;
-    height = header.1;
+    width = header.0.0;
+    height = header.0.1;
     x = plane_of (λ x y z. x) samples.0;
     y = plane_of (λ x y z. y) samples.0;
     z = plane_of (λ x y z. z) samples.0;

@@ -1,90 +1,212 @@
-// The header of a plain file.
-ghost use Rattle.std.specs.Prelude.{◌≡◌, ◌≤◌, ◌<◌, ◌^◌, IsTrue, IsSome, IfOk};
-ghost use Rattle.pnm_frames.specs.Fault.{Gives, HasFrameCause};
+// The header of a file: the magic number, the width, the height and the maxval.
+ghost use Rattle.std.specs.Prelude.{◌≡◌, ◌≤◌, ◌<◌, ◌+◌, ◌-◌, ◌*◌, ◌^◌, true, min, nat_le, ◌&&◌, if◌then◌else◌, IsTrue, IsSome, IfOk, IfErr, IfSome, OnOk};
+ghost use Rattle.std.specs.Char.{is_ascii_digit};
+ghost use Rattle.pnm_frames.specs.Fault.{Gives, HasFrameCause, IsOfHeader};
+ghost use Rattle.pnm_frames.specs.Grammar.{is_white as is_white_space};
 ghost use Rattle.pnm_frames.specs.Keeps.{ReadsOn};
-ghost use Rattle.pnm_frames.specs.Reading.{after, header_at, number_at};
+ghost use Rattle.pnm_frames.specs.Reading.{byte_at, capped, digits_at, header_at, magic_at, ranged_at, white_at};
 
 use crate::byte::read_byte;
 use crate::limits::SizeLimits;
 use crate::refusal::FrameRefusal;
 use cine_ports::Frames;
 
-/// The width and height of a frame, in pixels.
+/// What a header says: the width and height of a frame in pixels, and its own length in bytes.
 #[derive(Clone, Copy, Debug, PartialEq, Eq)]
 pub struct Header {
     pub width: u32,
     pub height: u32,
+    pub bytes: u32,
 }
 
-/// Reads a text that has to stand next.
-fn expect_text<F: Frames>(f: &mut F, text: &[u8]) -> Result<(), FrameRefusal>
-    requires { IsTrue (F.reading f.old).is_begun }
+/// Whether a byte is space, TAB, LF or CR.
+fn is_white(b: u8) -> bool
+    ensures { result ≡ is_white_space b }
+{
+    b == b' ' || b == b'\t' || b == b'\n' || b == b'\r'
+}
+
+/// Reads the header byte at a place, and moves the place behind it.
+fn read_header_byte<F: Frames>(f: &mut F, at: &mut u32) -> Result<u8, FrameRefusal>
+    requires begun { IsTrue (F.reading f.old).is_begun }
+    requires at { at.old ≤ 4096 }
     ensures reads { IsSome (F.source f.old).files →
-        Gives (λ _. (F.reading f.new).left) result (after text.now (F.reading f.old).left) }
+        Gives (λ b. (b, at.new, (F.reading f.new).left)) result (byte_at at.old (F.reading f.old).left) }
+    ensures at { OnOk result (at.new ≡ at.old + 1) }
+    ensures room { OnOk result (at.old < 4096) }
+    ensures refusals { IfErr result IsOfHeader }
     ensures keeps { ReadsOn (F.source f.old) (F.source f.new) (F.reading f.old) (F.reading f.new) }
     ensures cause { HasFrameCause (F.faults f.old) (F.faults f.new) result }
 {
-    for c in text {
-        let Some(b) = read_byte(f)? else {
-            return Err(FrameRefusal::NotPlain);
-        };
-        if b != *c {
-            return Err(FrameRefusal::NotPlain);
+    if *at >= 4096 {
+        return Err(FrameRefusal::HeaderTooLong);
+    }
+    let Some(b) = read_byte(f)? else {
+        return Err(FrameRefusal::Truncated(*at));
+    };
+    *at += 1;
+    Ok(b)
+}
+
+/// Reads further white space, and the byte behind it.
+fn skip_white<F: Frames>(f: &mut F, at: &mut u32) -> Result<u8, FrameRefusal>
+    requires begun { IsTrue (F.reading f.old).is_begun }
+    requires at { at.old ≤ 4096 }
+    ensures reads { IsSome (F.source f.old).files →
+        Gives (λ b. (b, at.new, (F.reading f.new).left)) result (white_at at.old (F.reading f.old).left) }
+    ensures low { OnOk result (1 ≤ at.new) }
+    ensures high { OnOk result (at.new ≤ 4096) }
+    ensures refusals { IfErr result IsOfHeader }
+    ensures keeps { ReadsOn (F.source f.old) (F.source f.new) (F.reading f.old) (F.reading f.new) }
+    ensures cause { HasFrameCause (F.faults f.old) (F.faults f.new) result }
+{
+    loop {
+        let b = read_header_byte(f, at)?;
+        if !is_white(b) {
+            return Ok(b);
         }
+    }
+}
+
+/// Reads further digits of a number that is worth n so far, and the white space byte that ends it.
+/// A number of 2^32 or more is answered as 2^32.
+fn read_digits<F: Frames>(f: &mut F, at: &mut u32, n: u64) -> Result<u64, FrameRefusal>
+    requires begun { IsTrue (F.reading f.old).is_begun }
+    requires at { at.old ≤ 4096 }
+    requires n { n ≤ 2 ^ 32 }
+    ensures reads { IsSome (F.source f.old).files →
+        Gives (λ m. (m, at.new, (F.reading f.new).left)) result (capped (digits_at n at.old (F.reading f.old).left)) }
+    ensures value { IfOk result (λ m. m ≤ 2 ^ 32) }
+    ensures at { OnOk result (at.new ≤ 4096) }
+    ensures refusals { IfErr result IsOfHeader }
+    ensures keeps { ReadsOn (F.source f.old) (F.source f.new) (F.reading f.old) (F.reading f.new) }
+    ensures cause { HasFrameCause (F.faults f.old) (F.faults f.new) result }
+{
+    let mut n = n;
+    loop {
+        let place = *at;
+        let b = read_header_byte(f, at)?;
+        if is_white(b) {
+            return Ok(n);
+        }
+        if !b.is_ascii_digit() {
+            return Err(FrameRefusal::BadHeader(place));
+        }
+        n = with_digit(n, b);
+    }
+}
+
+/// A number with one more digit behind it, and 2^32 for every number from there on.
+fn with_digit(n: u64, digit: u8) -> u64
+    requires n { n ≤ 2 ^ 32 }
+    requires digit { digit ≤ 57 }
+    ensures { result ≡ min (10 * n + (digit - 48)) (2 ^ 32) }
+{
+    let more = 10 * n + digit.saturating_sub(b'0') as u64;
+    if more < 1 << 32 { more } else { 1 << 32 }
+}
+
+/// Reads the rest of a gap, a number, and the white space byte that ends it. Answers None where the
+/// number isn't in the range.
+#[tactic(auto, unfolding(crate::specs::Reading::ranged_at, crate::specs::Reading::number_at))]
+fn read_number<F: Frames>(
+    f: &mut F,
+    at: &mut u32,
+    low: u32,
+    high: u32,
+) -> Result<Option<u32>, FrameRefusal>
+    requires begun { IsTrue (F.reading f.old).is_begun }
+    requires at { at.old ≤ 4096 }
+    ensures reads { IsSome (F.source f.old).files →
+        Gives (λ n. (n, at.new, (F.reading f.new).left)) result (ranged_at low high at.old (F.reading f.old).left) }
+    ensures low { IfOk result (λ number. IfSome number (λ n. low ≤ n)) }
+    ensures high { IfOk result (λ number. IfSome number (λ n. n ≤ high)) }
+    ensures at { OnOk result (at.new ≤ 4096) }
+    ensures refusals { IfErr result IsOfHeader }
+    ensures keeps { ReadsOn (F.source f.old) (F.source f.new) (F.reading f.old) (F.reading f.new) }
+    ensures cause { HasFrameCause (F.faults f.old) (F.faults f.new) result }
+{
+    let first = skip_white(f, at)?;
+    if !first.is_ascii_digit() {
+        return Err(FrameRefusal::BadHeader(*at - 1));
+    }
+    let n = read_digits(f, at, (first - b'0') as u64)?;
+    Ok(in_range(n, low, high))
+}
+
+/// A number, if it is in the range.
+fn in_range(n: u64, low: u32, high: u32) -> Option<u32>
+    ensures value { result ≡ (if nat_le low n && nat_le n high then Some n else None) }
+    ensures low { IfSome result (λ k. low ≤ k) }
+    ensures high { IfSome result (λ k. k ≤ high) }
+{
+    if low as u64 <= n && n <= high as u64 {
+        Some(n as u32)
+    } else {
+        None
+    }
+}
+
+/// Reads the magic number and the white space byte behind it.
+#[tactic(auto, unfolding(crate::specs::Reading::magic_at))]
+fn read_magic<F: Frames>(f: &mut F, at: &mut u32) -> Result<(), FrameRefusal>
+    requires begun { IsTrue (F.reading f.old).is_begun }
+    requires at { at.old ≤ 4096 }
+    ensures reads { IsSome (F.source f.old).files →
+        Gives (λ magic. (magic, at.new, (F.reading f.new).left)) result (magic_at at.old (F.reading f.old).left) }
+    ensures at { OnOk result (at.new ≤ 4096) }
+    ensures refusals { IfErr result IsOfHeader }
+    ensures keeps { ReadsOn (F.source f.old) (F.source f.new) (F.reading f.old) (F.reading f.new) }
+    ensures cause { HasFrameCause (F.faults f.old) (F.faults f.new) result }
+{
+    if read_header_byte(f, at)? != b'P' {
+        return Err(FrameRefusal::NotPpm);
+    }
+    if read_header_byte(f, at)? != b'6' {
+        return Err(FrameRefusal::NotPpm);
+    }
+    let place = *at;
+    if !is_white(read_header_byte(f, at)?) {
+        return Err(FrameRefusal::BadHeader(place));
     }
     Ok(())
 }
 
-/// Reads a number from 1 to a limit without leading zero, and the byte that ends it.
-fn read_number<F: Frames>(f: &mut F, limit: u32, end: u8) -> Result<u32, FrameRefusal>
-    requires begun { IsTrue (F.reading f.old).is_begun }
-    requires limit { limit < 2 ^ 16 }
-    ensures reads { IsSome (F.source f.old).files →
-        Gives (λ n. (n, (F.reading f.new).left)) result (number_at limit end 0 (F.reading f.old).left) }
-    ensures low { IfOk result (λ n. 1 ≤ n) }
-    ensures high { IfOk result (λ n. n ≤ limit) }
-    ensures keeps { ReadsOn (F.source f.old) (F.source f.new) (F.reading f.old) (F.reading f.new) }
-    ensures cause { HasFrameCause (F.faults f.old) (F.faults f.new) result }
-{
-    let mut n = 0;
-    loop {
-        let Some(b) = read_byte(f)? else {
-            return Err(FrameRefusal::NotPlain);
-        };
-        if !b.is_ascii_digit() {
-            return if b == end && n >= 1 {
-                Ok(n)
-            } else {
-                Err(FrameRefusal::NotPlain)
-            };
-        }
-        let more = 10 * n + (b - b'0') as u32;
-        if more < 1 || more > limit {
-            return Err(FrameRefusal::NotPlain);
-        }
-        n = more;
-    }
-}
-
-/// Reads the header: the magic number, the width and height within the limits, and the maxval.
+/// Reads the header of the begun frame, of which nothing has been read, and judges its numbers.
+///
+/// A number is judged at the byte that ends it. The first fault in reading order is told: NotPpm,
+/// BadHeader with its place, HeaderTooLong (more than 4,096 bytes), WidthOutOfRange and
+/// HeightOutOfRange (0, or above the limit), WrongMaxval (not 4095), or Truncated with the number of
+/// bytes. A failed read is refused as Source at once. Takes no memory.
 #[tactic(auto, unfolding(crate::specs::Reading::header_at))]
 pub fn read_header<F: Frames>(f: &mut F, limits: SizeLimits) -> Result<Header, FrameRefusal>
-    requires begun { IsTrue (F.reading f.old).is_begun }
-    requires width { limits.width < 2 ^ 16 }
-    requires height { limits.height < 2 ^ 16 }
+    requires { IsTrue (F.reading f.old).is_begun }
     ensures reads { IsSome (F.source f.old).files →
-        Gives (λ header. (header.width, header.height, (F.reading f.new).left)) result
+        Gives (λ header. ((header.width, header.height), header.bytes, (F.reading f.new).left)) result
         (header_at limits (F.reading f.old).left) }
     ensures width_low { IfOk result (λ header. 1 ≤ header.width) }
     ensures width_high { IfOk result (λ header. header.width ≤ limits.width) }
     ensures height_low { IfOk result (λ header. 1 ≤ header.height) }
     ensures height_high { IfOk result (λ header. header.height ≤ limits.height) }
+    ensures bytes { IfOk result (λ header. header.bytes ≤ 4096) }
+    ensures refusals { IfErr result IsOfHeader }
     ensures keeps { ReadsOn (F.source f.old) (F.source f.new) (F.reading f.old) (F.reading f.new) }
     ensures cause { HasFrameCause (F.faults f.old) (F.faults f.new) result }
 {
-    expect_text(f, b"P6\n")?;
-    let width = read_number(f, limits.width, b' ')?;
-    let height = read_number(f, limits.height, b'\n')?;
-    expect_text(f, b"4095\n")?;
-    Ok(Header { width, height })
+    let mut bytes = 0;
+    read_magic(f, &mut bytes)?;
+    let Some(width) = read_number(f, &mut bytes, 1, limits.width)? else {
+        return Err(FrameRefusal::WidthOutOfRange);
+    };
+    let Some(height) = read_number(f, &mut bytes, 1, limits.height)? else {
+        return Err(FrameRefusal::HeightOutOfRange);
+    };
+    let Some(_) = read_number(f, &mut bytes, 4095, 4095)? else {
+        return Err(FrameRefusal::WrongMaxval);
+    };
+    Ok(Header {
+        width,
+        height,
+        bytes,
+    })
 }

@@ -1,9 +1,11 @@
-//! Frames as binary PPM files: ppm(5), magic `P6`, maxval 4095, the samples X, Y and Z of each pixel
-//! in two bytes, high byte first.
+//! Frames as binary PPM files: ppm(5), magic `P6`, maxval 4095, the samples X', Y' and Z' of each
+//! pixel in two bytes, high byte first. Comments aren't in the grammar.
 //!
-//! `read_frame` answers a frame exactly where the bytes of a begun file are the plain file of a
-//! picture within the limits, and then that picture. The definitions are `spelling` of a picture and
-//! its inverse `frame_of`.
+//! `read_frame` answers a frame exactly where the bytes of a begun file spell a picture within the
+//! limits, and then that picture (`Spells` in specs/Grammar.antt). Any other file is refused by its
+//! first fault in reading order, with its place in bytes (`frame_of` in specs/Reading.antt). A caller
+//! that takes one row after the other has the same from `read_header`, `read_row` and `expect_end`. The
+//! clauses of `first_fault` say that the fault is the first.
 //!
 //! ```
 //! frames.begin(0)?;
@@ -15,12 +17,18 @@
 mod byte;
 mod frame;
 mod header;
+mod law;
 mod limits;
 mod raster;
 mod reading;
 mod refusal;
+#[cfg(test)]
+mod tests;
 
 pub use frame::Frame;
+pub use header::{Header, read_header};
+pub use law::first_fault;
 pub use limits::SizeLimits;
+pub use raster::{expect_end, read_row};
 pub use reading::read_frame;
 pub use refusal::FrameRefusal;

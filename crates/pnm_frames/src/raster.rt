@@ -1,11 +1,12 @@
 // The raster: three samples a pixel, row by row.
-ghost use Rattle.std.specs.Prelude.{◌≡◌, ◌≤◌, ◌<◌, ◌^◌, ◌*◌, ◌++◌, ◌↔◌, IsTrue, IsSome, All, length, OnOk, IfOk};
+ghost use Rattle.std.specs.Prelude.{ℕ, ◌+◌, IfErr, OnErr, ◌≡◌, ◌≤◌, ◌<◌, ◌^◌, ◌*◌, ◌++◌, ◌↔◌, IsTrue, IsSome, All, length, OnOk, IfOk};
 ghost use Rattle.std.specs.List.{flat_map};
-ghost use Rattle.pnm_frames.specs.Fault.{Gives, HasFrameCause};
+ghost use Rattle.pnm_frames.specs.Fault.{Fails, Gives, HasFrameCause, IsOfEnd, IsOfRow, fault_of};
 ghost use Rattle.pnm_frames.specs.Keeps.{ReadsOn};
 ghost use Rattle.pnm_frames.specs.Picture.{IsSample, interleaved, sample};
-ghost use Rattle.pnm_frames.specs.Reading.{samples_at};
+ghost use Rattle.pnm_frames.specs.Reading.{ended, samples_at};
 
+use crate::byte::read_byte;
 use crate::frame::Frame;
 use crate::header::Header;
 use crate::refusal::FrameRefusal;
@@ -34,26 +35,77 @@ fn decode_row(bytes: &[u8], row: &mut [u16])
     BigEndian::read_u16_into(bytes, row);
 }
 
-/// Reads as many samples as the row has, through a scratch buffer of two bytes a sample.
-fn read_row<F: Frames>(f: &mut F, scratch: &mut [u8], row: &mut [u16]) -> Result<(), FrameRefusal>
+/// The first fault of a row of which these bytes were read from a place on: a sample above 4095, or
+/// else that the bytes are too few.
+fn row_fault(bytes: &[u8], at: u32) -> FrameRefusal
+    requires bytes { length bytes.now ≤ 2 ^ 16 }
+    requires at { at ≤ 60000000 }
+    ensures fault { (count : ℕ) → length bytes.now < 2 * count → Fails result (samples_at count at bytes.now) }
+    ensures refusal { IsOfRow result }
+    ensures tells { IsSome (fault_of result) }
+{
+    for i in 0..bytes.len() / 2 {
+        if bytes[2 * i] as u32 * 256 + bytes[2 * i + 1] as u32 > 4095 {
+            return FrameRefusal::SampleTooLarge(at + 2 * i as u32);
+        }
+    }
+    FrameRefusal::Truncated(at + bytes.len() as u32)
+}
+
+/// Reads as many samples as the row has, through a scratch buffer of two bytes a sample, from the
+/// place of the next byte on, and moves the place behind them.
+///
+/// The first sample that is above 4095 or isn't whole decides: it is refused as SampleTooLarge with
+/// the place of its first byte, or as Truncated with the number of the file's bytes. A failed read is
+/// refused as Source at once. After a refusal the place is as it was, and the scratch buffer and the
+/// row may hold anything. Takes no memory.
+pub fn read_row<F: Frames>(
+    f: &mut F,
+    at: &mut u32,
+    scratch: &mut [u8],
+    row: &mut [u16],
+) -> Result<(), FrameRefusal>
     requires begun { IsTrue (F.reading f.old).is_begun }
     requires scratch { length scratch.old ≡ 2 * length row.old }
-    ensures reads { IsSome (F.source f.old).files →
-        Gives (λ _. (row.new, (F.reading f.new).left)) result (samples_at (length row.old) (F.reading f.old).left) }
+    requires row { length row.old ≤ 12288 }
+    requires at { at.old ≤ 60000000 }
+    ensures reads { IsSome (F.source f.old).files → Gives (λ _. (row.new, (F.reading f.new).left)) result
+        (samples_at (length row.old) at.old (F.reading f.old).left) }
     ensures spelled { OnOk result (IsSome (F.source f.old).files →
         (F.reading f.old).left ≡ flat_map sample row.new ++ (F.reading f.new).left) }
     ensures range { OnOk result (All IsSample row.new) }
+    ensures at { OnOk result (at.new ≡ at.old + 2 * length row.old) }
+    ensures err { OnErr result (at.new ≡ at.old) }
+    ensures refusals { IfErr result IsOfRow }
     ensures keeps { ReadsOn (F.source f.old) (F.source f.new) (F.reading f.old) (F.reading f.new) }
     ensures cause { HasFrameCause (F.faults f.old) (F.faults f.new) result }
 {
-    if read_fully(f, scratch)? < scratch.len() {
-        return Err(FrameRefusal::NotPlain);
+    let seen = read_fully(f, scratch)?;
+    if seen < scratch.len() {
+        return Err(row_fault(&scratch[..seen], *at));
     }
     decode_row(scratch, row);
     if !all_fit(row) {
-        return Err(FrameRefusal::NotPlain);
+        return Err(row_fault(scratch, *at));
     }
+    *at += seen as u32;
     Ok(())
+}
+
+/// Sees that nothing is left of the begun frame.
+///
+/// A further byte is refused as TrailingBytes, a failed read as Source. Takes no memory.
+pub fn expect_end<F: Frames>(f: &mut F) -> Result<(), FrameRefusal>
+    requires { IsTrue (F.reading f.old).is_begun }
+    ensures reads { IsSome (F.source f.old).files → Gives (λ nothing. nothing) result (ended tt (F.reading f.old).left) }
+    ensures refusals { IfErr result IsOfEnd }
+    ensures keeps { ReadsOn (F.source f.old) (F.source f.new) (F.reading f.old) (F.reading f.new) }
+    ensures cause { HasFrameCause (F.faults f.old) (F.faults f.new) result }
+{
+    match read_byte(f)? {
+        None => Ok(()),
+        Some(_) => Err(FrameRefusal::TrailingBytes),
+    }
 }
 
 /// Writes the samples of a row into the rows of the three planes.
@@ -81,8 +133,9 @@ fn read_rows<F: Frames>(
     header: Header,
 ) -> Result<(), FrameRefusal>
     requires begun { IsTrue (F.reading f.old).is_begun }
-    requires width { header.width < 2 ^ 16 }
-    requires height { header.height < 2 ^ 16 }
+    requires width { header.width ≤ 4096 }
+    requires size { header.width * header.height ≤ 4096 * 2160 }
+    requires bytes { header.bytes ≤ 4096 }
     requires row { length row.old ≡ 3 * header.width }
     requires scratch { length scratch.old ≡ 2 * length row.old }
     requires x { length x.old ≡ header.width * header.height }
@@ -90,7 +143,7 @@ fn read_rows<F: Frames>(
     requires z { length z.old ≡ header.width * header.height }
     ensures reads { IsSome (F.source f.old).files →
         Gives (λ _. (interleaved x.new y.new z.new, (F.reading f.new).left)) result
-        (samples_at (3 * (header.width * header.height)) (F.reading f.old).left) }
+        (samples_at (3 * (header.width * header.height)) header.bytes (F.reading f.old).left) }
     ensures spelled { OnOk result (IsSome (F.source f.old).files →
         (F.reading f.old).left ≡ flat_map sample (interleaved x.new y.new z.new) ++ (F.reading f.new).left) }
     ensures x_range { OnOk result (All IsSample x.new) }
@@ -100,9 +153,10 @@ fn read_rows<F: Frames>(
     ensures cause { HasFrameCause (F.faults f.old) (F.faults f.new) result }
 {
     let width = header.width as usize;
+    let mut at = header.bytes;
     let mut start = 0;
     for _ in 0..header.height {
-        read_row(f, scratch, row)?;
+        read_row(f, &mut at, scratch, row)?;
         let end = start + width;
         split_row(
             row,
@@ -122,11 +176,12 @@ pub fn read_raster<F: Frames>(
     header: Header,
 ) -> Result<Frame, FrameRefusal>
     requires begun { IsTrue (F.reading f.old).is_begun }
-    requires width { header.width < 2 ^ 16 }
-    requires height { header.height < 2 ^ 16 }
+    requires width { header.width ≤ 4096 }
+    requires height { header.height ≤ 2160 }
+    requires bytes { header.bytes ≤ 4096 }
     ensures reads { IsSome (F.source f.old).files →
         Gives (λ frame. (interleaved frame.x.items frame.y.items frame.z.items, (F.reading f.new).left)) result
-        (samples_at (3 * (header.width * header.height)) (F.reading f.old).left) }
+        (samples_at (3 * (header.width * header.height)) header.bytes (F.reading f.old).left) }
     ensures spelled { IfOk result (λ frame. IsSome (F.source f.old).files → (F.reading f.old).left
         ≡ flat_map sample (interleaved frame.x.items frame.y.items frame.z.items) ++ (F.reading f.new).left) }
     ensures width { IfOk result (λ frame. frame.width ≡ header.width) }
@@ -142,7 +197,7 @@ pub fn read_raster<F: Frames>(
     let mut row = vec![in alloc; 0u16; 3 * across]?;
     let mut scratch = vec![in alloc; 0u8; 6 * across]?;
     read_rows(f, &mut scratch, &mut row, &mut x, &mut y, &mut z, header)?;
-    let Header { width, height } = header;
+    let Header { width, height, .. } = header;
     Ok(Frame {
         width,
         height,

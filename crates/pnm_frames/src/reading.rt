@@ -1,17 +1,18 @@
 // A whole frame.
-ghost use Rattle.std.specs.Prelude.{[], ◌≡◌, ◌≤◌, IsTrue, IsSome, IfOk, OnOk, Ok};
+ghost use Rattle.std.specs.Prelude.{◌≡◌, ◌≤◌, IsTrue, IsSome, IfOk, IfErr, IsOk, Ok};
 ghost use Rattle.cine_ports.specs.Moves.{IsEndOf};
 ghost use Rattle.pnm_frames.specs.Fault.{Gives, HasFrameCause};
+ghost use Rattle.pnm_frames.specs.Grammar.{Spells};
 ghost use Rattle.pnm_frames.specs.Keeps.{ReadsOn};
-ghost use Rattle.pnm_frames.specs.Picture.{Fits, IsWithin, Picture, spelling};
-ghost use Rattle.pnm_frames.specs.Reading.{frame_of};
+ghost use Rattle.pnm_frames.specs.Picture.{Fits, IsWithin, Picture};
+ghost use Rattle.pnm_frames.specs.Reading.{frame_of, header_at};
 ghost use Rattle.pnm_frames.specs.View.{picture_of};
+ghost use Rattle.pnm_frames.specs.declared.refusal.FrameRefusal.TheVariants.{Memory};
 
-use crate::byte::read_byte;
 use crate::frame::Frame;
 use crate::header::read_header;
 use crate::limits::SizeLimits;
-use crate::raster::read_raster;
+use crate::raster::{expect_end, read_raster};
 use crate::refusal::FrameRefusal;
 use cine_ports::Frames;
 use std::alloc::Global;
@@ -22,25 +23,26 @@ fn read_all<F: Frames>(alloc: Global, f: &mut F, limits: SizeLimits) -> Result<F
     requires width { limits.width ≤ 4096 }
     requires height { limits.height ≤ 2160 }
     ensures found { IfOk result (λ frame. IsSome (F.source f.old).files →
-        Fits limits (picture_of frame) × ((F.reading f.old).left ≡ spelling (picture_of frame))) }
+        Fits limits (picture_of frame) × Spells (F.reading f.old).left (picture_of frame)) }
     ensures exact { IsSome (F.source f.old).files → Gives picture_of result (frame_of limits (F.reading f.old).left) }
+    ensures memory { IfErr result (λ e. e ≡ Memory → IsSome (F.source f.old).files →
+        IsOk (header_at limits (F.reading f.old).left)) }
     ensures sizes { IfOk result (λ frame. IsWithin limits frame.width frame.height) }
     ensures keeps { ReadsOn (F.source f.old) (F.source f.new) (F.reading f.old) (F.reading f.new) }
     ensures cause { HasFrameCause (F.faults f.old) (F.faults f.new) result }
 {
     let header = read_header(f, limits)?;
     let frame = read_raster(alloc, f, header)?;
-    match read_byte(f)? {
-        None => Ok(frame),
-        Some(_) => Err(FrameRefusal::NotPlain),
-    }
+    expect_end(f)?;
+    Ok(frame)
 }
 
-/// Reads the begun frame, of which nothing has been read: the picture whose plain file its bytes are,
-/// with a width and height of at least 1 and within the limits.
+/// Reads the begun frame, of which nothing has been read: the picture that its bytes spell, with a
+/// width and height of at least 1 and within the limits.
 ///
-/// A file of any other bytes, also of fewer or more, is refused as NotPlain. A failed read is refused
-/// as Source at once. Memory may come once the header is read, in place of any later answer.
+/// A file of any other bytes is refused by its first fault in reading order: those of `read_header`,
+/// SampleTooLarge and Truncated as by `read_row`, and TrailingBytes. A failed read is refused as Source
+/// at once. Memory may come once the header is read, in place of any later answer.
 pub fn read_frame<F: Frames>(
     alloc: Global,
     f: &mut F,
@@ -49,14 +51,17 @@ pub fn read_frame<F: Frames>(
     requires begun { IsTrue (F.reading f.old).is_begun }
     requires width { limits.width ≤ 4096 }
     requires height { limits.height ≤ 2160 }
-    // What is read is a picture within the limits, and the file is its spelling.
+    // What is read is a picture within the limits, and the file spells it.
     ensures found { IfOk result (λ frame. IsSome (F.source f.old).files →
-        Fits limits (picture_of frame) × ((F.reading f.old).left ≡ spelling (picture_of frame))) }
-    // The spelling of a picture within the limits is read, unless the source fails or memory is wanting.
+        Fits limits (picture_of frame) × Spells (F.reading f.old).left (picture_of frame)) }
+    // What spells a picture within the limits is read, unless the source fails or memory is wanting.
     ensures only { IsSome (F.source f.old).files → (p : Picture) → Fits limits p →
-        (F.reading f.old).left ≡ spelling p → Gives picture_of result (Ok p) }
-    // Which of the two it is.
+        Spells (F.reading f.old).left p → Gives picture_of result (Ok p) }
+    // The picture, or the first fault.
     ensures exact { IsSome (F.source f.old).files → Gives picture_of result (frame_of limits (F.reading f.old).left) }
+    // A header with a fault is refused by that, whatever memory there is.
+    ensures memory { IfErr result (λ e. e ≡ Memory → IsSome (F.source f.old).files →
+        IsOk (header_at limits (F.reading f.old).left)) }
     // Also of a source that doesn't tell its files.
     ensures sizes { IfOk result (λ frame. IsWithin limits frame.width frame.height) }
     ensures begun { IsTrue (F.reading f.new).is_begun }

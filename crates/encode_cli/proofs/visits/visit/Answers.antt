@@ -1,20 +1,17 @@
-use Rattle.std.proofs.Common.{◌≡◌, Option, Result, Ok, Err, refl, sym, subst}
+use Rattle.std.proofs.Common.{◌≡◌, ◌∙◌, Option, Err, [], Ok, option_map, refl, sym, subst}
+use Rattle.std.proofs.lemmas.Result.{err_from_is_err_and}
 use Rattle.cine_ports.specs.Outputs.{Kept}
-use Rattle.pnm_frames.specs.declared.refusal.FrameRefusal.{FrameRefusal}
-use Rattle.pnm_frames.specs.declared.refusal.FrameRefusal.TheVariants as refusals
-use Rattle.pnm_frames.specs.Fault.{Fault, NotPlain, Fails}
-use Rattle.pnm_frames.specs.Picture.{Picture}
+use Rattle.cine_ports.specs.Moves.{said_with}
+use Rattle.pnm_frames.specs.Fault.{Fault, fault_of}
 use Rattle.pnm_frames.specs.Reading.{frame_of}
 use Rattle.pnm_frames.specs.View.{picture_of}
-use Rattle.encode_cli.specs.Visit.{accepted, refused, sizes_2k, BrokenOff}
+use Rattle.encode_cli.specs.Put.{kept_and}
+use Rattle.encode_cli.specs.Visit.{accepted, refused, line_of, sizes_2k, BrokenOff}
+use Rattle.encode_cli.proofs.Faults.{fault_told, faulty, none_counted, of_told, stops_too}
 use Rattle.encode_cli.proofs.Packets.{within_limits}
 use Rattle.encode_cli.proofs.Puts.{on_err}
 use Rattle.encode_cli.proofs.Told.{is_visit, breaks_at, none_added}
 use Rattle.encode_cli.proofs.visits.visit.Goals as goal
-
--- what a refusal as NotPlain says
-not_plain : {P : Type 0} (e : FrameRefusal) (read : Result Picture Fault) → e ≡ refusals.NotPlain → (P → Fails e read) → P → read ≡ Err NotPlain
-not_plain e read is h p = subst (λ (r : FrameRefusal). Fails r read) is (h p)
 
 pub returns-in_err-write_frame-in-Ok-read_frame-clause-err : goal.returns-in_err-write_frame-in-Ok-read_frame-clause-err
 returns-in_err-write_frame-in-Ok-read_frame-clause-err g c =
@@ -26,20 +23,6 @@ returns-in_err-write_frame-in-Ok-read_frame-clause-err g c =
     (breaks_at (g.F.Frames.source c.args.frames.now).names (g.F.Frames.source c.args.frames.now).files c.args.i visit
     (g.O.Outputs.kept c.args.outputs.now) (g.O.Outputs.kept c.write_frame.new.outputs) (g.S.Report.said c.args.report.now) (g.S.Report.said c.write_frame.new.report)
     here c.in_err-write_frame-in-Ok-read_frame.ensures.err)
-
-pub returns-in_err-refuse-in-Err-NotPlain-clause-err : goal.returns-in_err-refuse-in-Err-NotPlain-clause-err
-returns-in_err-refuse-in-Err-NotPlain-clause-err g c =
-    let visit = refused c.name-in-Err-NotPlain.result.now NotPlain in
-    let kept = g.O.Outputs.kept c.args.outputs.now in
-    let said = g.S.Report.said c.args.report.now in
-    let said_now = g.S.Report.said c.refuse.new.report in
-    let here = is_visit (g.F.Frames.source c.args.frames.now) (g.F.Frames.source c.begin.new.self) (g.F.Frames.source c.read_frame.new.f) c.args.i
-    c.name-in-Err-NotPlain.result.now (g.F.Frames.reading c.begin.new.self).left (Err NotPlain)
-    c.begin.ensures.source c.read_frame.ensures.source c.requires.listed c.in-Ok.ensures.left (not_plain c.in-Err-NotPlain.field-0 (frame_of sizes_2k (g.F.Frames.reading c.begin.new.self).left) c.in-Err-NotPlain.field-0-is c.in-Err-NotPlain.ensures.exact) c.name-in-Err-NotPlain.ensures in
-    let broken : BrokenOff visit kept kept said said_now =
-    subst (λ (k : Option Kept). BrokenOff visit k k said said_now) (none_added kept c.requires.at_rest) (c.in_err-refuse-in-Err-NotPlain.ensures.err kept) in
-    on_err c.from_residual-in_err-refuse-in-Err-NotPlain.result
-    (breaks_at (g.F.Frames.source c.args.frames.now).names (g.F.Frames.source c.args.frames.now).files c.args.i visit kept kept said said_now here broken)
 
 pub returns-in_ok-write_frame-in-Ok-read_frame-clause-ok : goal.returns-in_ok-write_frame-in-Ok-read_frame-clause-ok
 returns-in_ok-write_frame-in-Ok-read_frame-clause-ok g c = record {
@@ -53,14 +36,47 @@ returns-in_ok-write_frame-in-Ok-read_frame-clause-ok g c = record {
   within = within_limits (picture_of c.in-Ok-read_frame.frame) c.in-Ok-read_frame.ensures.sizes.width_in_limits c.in-Ok-read_frame.ensures.sizes.height_in_limits;
 }
 
-pub returns-in_ok-refuse-in-Err-NotPlain-clause-ok : goal.returns-in_ok-refuse-in-Err-NotPlain-clause-ok
-returns-in_ok-refuse-in-Err-NotPlain-clause-ok g c = record {
-  visit = refused c.name-in-Err-NotPlain.result.now NotPlain;
-  is_visit = is_visit (g.F.Frames.source c.args.frames.now) (g.F.Frames.source c.begin.new.self) (g.F.Frames.source c.read_frame.new.f) c.args.i
-      c.name-in-Err-NotPlain.result.now (g.F.Frames.reading c.begin.new.self).left (Err NotPlain)
-      c.begin.ensures.source c.read_frame.ensures.source c.requires.listed c.in-Ok.ensures.left (not_plain c.in-Err-NotPlain.field-0 (frame_of sizes_2k (g.F.Frames.reading c.begin.new.self).left) c.in-Err-NotPlain.field-0-is c.in-Err-NotPlain.ensures.exact) c.name-in-Err-NotPlain.ensures;
-  kept = sym (none_added (g.O.Outputs.kept c.args.outputs.now) c.requires.at_rest);
-  said = c.in_ok-refuse-in-Err-NotPlain.ensures.said;
-  refused = refl;
-  within = tt;
-}
+pub returns-in_err-refuse-in_default-clause-err : goal.returns-in_err-refuse-in_default-clause-err
+returns-in_err-refuse-in_default-clause-err g c =
+    let refusal = c.in-Err-read_frame.refusal in
+    let told = fault_told refusal c.in_default.not-Source c.in_default.not-Memory in
+    let visit = refused c.name-in_default.result.now told.0 in
+    let kept = g.O.Outputs.kept c.args.outputs.now in
+    let said = g.S.Report.said c.args.report.now in
+    let said_now = g.S.Report.said c.refuse.new.report in
+    let here = is_visit (g.F.Frames.source c.args.frames.now) (g.F.Frames.source c.begin.new.self) (g.F.Frames.source c.read_frame.new.f) c.args.i
+    c.name-in_default.result.now (g.F.Frames.reading c.begin.new.self).left (Err told.0)
+    c.begin.ensures.source c.read_frame.ensures.source c.requires.listed c.in-Ok.ensures.left
+    (faulty refusal told.0 (frame_of sizes_2k (g.F.Frames.reading c.begin.new.self).left) told.1 c.in-Err-read_frame.ensures.exact) c.name-in_default.ensures in
+    let broken : BrokenOff visit kept kept said said_now =
+    subst (λ (k : Option Kept). BrokenOff visit k k said said_now) (none_added kept c.requires.at_rest)
+    (of_told (λ (f : Fault). BrokenOff (refused c.name-in_default.result.now f) (option_map (kept_and []) kept) (option_map (kept_and []) kept) said said_now) (fault_of refusal) told.0 told.1 (c.in_err-refuse-in_default.ensures.err kept)) in
+    on_err c.from_residual-in_err-refuse-in_default.result
+    (breaks_at (g.F.Frames.source c.args.frames.now).names (g.F.Frames.source c.args.frames.now).files c.args.i visit kept kept said said_now here broken)
+
+pub returns-in_err-refuse-in_default-clause-cause : goal.returns-in_err-refuse-in_default-clause-cause
+returns-in_err-refuse-in_default-clause-cause g c =
+    let p = err_from_is_err_and c.from_residual-in_err-refuse-in_default.result c.from_residual-in_err-refuse-in_default.ensures.1 in
+    let same = none_counted c.in-Err-read_frame.refusal _ _ c.in_default.not-Source c.in-Err-read_frame.ensures.cause ∙ c.in-Ok.ensures.cause in
+    rw (p.1, p.2) (stops_too _ _ _ _ _ c.in_err-refuse-in_default.field-0.0 same c.in_err-refuse-in_default.ensures.cause)
+
+pub returns-in_ok-refuse-in_default-clause-ok : goal.returns-in_ok-refuse-in_default-clause-ok
+returns-in_ok-refuse-in_default-clause-ok g c =
+    let refusal = c.in-Err-read_frame.refusal in
+    let told = fault_told refusal c.in_default.not-Source c.in_default.not-Memory in
+    record {
+      visit = refused c.name-in_default.result.now told.0;
+      is_visit = is_visit (g.F.Frames.source c.args.frames.now) (g.F.Frames.source c.begin.new.self) (g.F.Frames.source c.read_frame.new.f) c.args.i
+          c.name-in_default.result.now (g.F.Frames.reading c.begin.new.self).left (Err told.0)
+          c.begin.ensures.source c.read_frame.ensures.source c.requires.listed c.in-Ok.ensures.left
+          (faulty refusal told.0 (frame_of sizes_2k (g.F.Frames.reading c.begin.new.self).left) told.1 c.in-Err-read_frame.ensures.exact) c.name-in_default.ensures;
+      kept = sym (none_added (g.O.Outputs.kept c.args.outputs.now) c.requires.at_rest);
+      said = of_told (λ (f : Fault). g.S.Report.said c.refuse.new.report ≡ option_map (said_with (line_of (refused c.name-in_default.result.now f))) (g.S.Report.said c.args.report.now)) (fault_of refusal) told.0 told.1 c.in_ok-refuse-in_default.ensures.said;
+      refused = refl;
+      within = tt;
+    }
+
+pub returns-in_ok-refuse-in_default-clause-cause : goal.returns-in_ok-refuse-in_default-clause-cause
+returns-in_ok-refuse-in_default-clause-cause g c =
+    let same = none_counted c.in-Err-read_frame.refusal _ _ c.in_default.not-Source c.in-Err-read_frame.ensures.cause ∙ c.in-Ok.ensures.cause in
+    (same, refl, c.in_ok-refuse-in_default.ensures.cause.2)

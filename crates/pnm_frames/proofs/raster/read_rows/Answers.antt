@@ -2,9 +2,11 @@ use Rattle.std.proofs.Common.{◌≡◌, ◌+◌, ◌*◌, ◌≤◌, ◌∙◌,
 use Rattle.std.proofs.lemmas.List.{length-take}
 use Rattle.std.proofs.lemmas.Result.{err_from_is_err_and}
 use Rattle.pnm_frames.specs.Picture.{interleaved}
+use Rattle.pnm_frames.specs.Reading.{samples_at}
+use Rattle.pnm_frames.proofs.Headers.{fails-on}
 use Rattle.pnm_frames.proofs.Keeping.{keeps-then, told-on}
 use Rattle.pnm_frames.proofs.Planes.{length-interleaved, All-x, All-y, All-z}
-use Rattle.pnm_frames.proofs.Samples.{room, all-there, rows-fail, rows-step, range-step, length-read, row-read}
+use Rattle.pnm_frames.proofs.Samples.{room, all-there, rows-refused, rows-step, range-step, length-read, row-read}
 use Rattle.pnm_frames.proofs.raster.read_rows.Goals as goal
 
 pub returns-in_err-read_row-clause-keeps : goal.returns-in_err-read_row-clause-keeps
@@ -19,11 +21,20 @@ returns-in_err-read_row-clause-reads g c =
     let fits : start + w ≤ w * h = room w h c.loop.counter start c.loop-test.true c.loop.invariant.place in
     let before : length (interleaved (take start c.loop.x) (take start c.loop.y) (take start c.loop.z)) + length c.loop.row ≤ 3 * (w * h)
     = omega (arith, length-read start c.loop.x c.loop.y c.loop.z (omega arith) (omega arith) (omega arith)) in
-    rw (p.1, p.2) (λ told. rows-fail c.in_err-read_row.field-0.0 (3 * (w * h)) (length c.loop.row)
-    (interleaved (take start c.loop.x) (take start c.loop.y) (take start c.loop.z))
-    (g.F.Frames.reading c.args.f.now).left (g.F.Frames.reading c.loop.f).left
-    (c.loop.invariant.spelled told) c.loop.invariant.range before
+    let s = interleaved (take start c.loop.x) (take start c.loop.y) (take start c.loop.z) in
+    let here : c.loop.at ≡ c.args.header.bytes + 2 * length s =
+    omega (arith, c.loop.invariant.here, length-read start c.loop.x c.loop.y c.loop.z (omega arith) (omega arith) (omega arith)) in
+    let left = (g.F.Frames.reading c.loop.f).left in
+    let all = (g.F.Frames.reading c.args.f.now).left in
+    rw (p.1, p.2) (λ told. fails-on c.in_err-read_row.field-0.0 (samples_at (length c.loop.row) c.loop.at left) (samples_at (3 * (w * h)) c.args.header.bytes all)
+    (λ fault e. rows-refused (3 * (w * h)) (length c.loop.row) c.args.header.bytes c.loop.at s all left fault
+    (c.loop.invariant.spelled told) c.loop.invariant.range before here e)
     (c.in_err-read_row.ensures.reads (told-on _ _ c.loop.invariant.keeps.source told)))
+
+pub read_row-requires-clause-at : goal.read_row-requires-clause-at
+read_row-requires-clause-at g c =
+    let fits = room c.args.header.width c.args.header.height c.loop.counter c.loop.start c.loop-test.true c.loop.invariant.place in
+    omega (arith, c.loop.invariant.here)
 
 pub loop-preserved : goal.loop-preserved
 loop-preserved g c =
@@ -45,6 +56,7 @@ loop-preserved g c =
       range = range-step w start c.loop.x c.loop.y c.loop.z c.split_row.new.x c.split_row.new.y c.split_row.new.z c.read_row.new.row
           lx ly lz sx sy sz kept.range c.in_ok-read_row.ensures.range c.split_row.ensures;
       place = omega (arith, kept.place);
+      here = omega (arith, kept.here, c.in_ok-read_row.ensures.at);
       keeps = keeps-then _ _ _ _ _ _ kept.keeps c.read_row.ensures.keeps;
       faults = c.in_ok-read_row.ensures.cause ∙ kept.faults;
     }
@@ -79,6 +91,6 @@ returns-clause-reads g c =
     let tx = take_all c.loop.start c.loop.x (omega arith) in
     let ty = take_all c.loop.start c.loop.y (omega arith) in
     let tz = take_all c.loop.start c.loop.z (omega arith) in
-    λ told. row-read (3 * (c.args.header.width * c.args.header.height)) _ _ (interleaved c.loop.x c.loop.y c.loop.z)
+    λ told. row-read (3 * (c.args.header.width * c.args.header.height)) c.args.header.bytes _ _ (interleaved c.loop.x c.loop.y c.loop.z)
     (omega (arith, length-interleaved c.loop.x c.loop.y c.loop.z (omega arith) (omega arith)))
     (rw (tx, ty, tz) at (c.loop.invariant.spelled told)) (rw (tx, ty, tz) at c.loop.invariant.range)

@@ -1,4 +1,4 @@
-use Rattle.std.proofs.Common.{◌≡◌, ◌*◌, ◌++◌, IsSome, All, take}
+use Rattle.std.proofs.Common.{◌≡◌, ◌*◌, ◌+◌, ◌++◌, IsSome, All, take}
 use Rattle.std.specs.List.{flat_map}
 use Rattle.pnm_frames.specs.Keeps.{ReadsOn}
 use Rattle.pnm_frames.specs.Picture.{IsSample, interleaved, sample}
@@ -11,6 +11,7 @@ invariant-loop g l = record {
       ≡ flat_map sample (interleaved (take l.start l.x) (take l.start l.y) (take l.start l.z)) ++ (g.F.Frames.reading l.f).left;
   range : All IsSample (interleaved (take l.start l.x) (take l.start l.y) (take l.start l.z));
   place : l.start ≡ l.width * l.counter;
+  here : l.at ≡ l.fn.header.bytes + 6 * l.start;
   keeps : ReadsOn (g.F.Frames.source l.fn.f) (g.F.Frames.source l.f) (g.F.Frames.reading l.fn.f) (g.F.Frames.reading l.f);
   faults : g.F.Frames.faults l.f ≡ g.F.Frames.faults l.fn.f;
 }

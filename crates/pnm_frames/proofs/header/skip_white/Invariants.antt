@@ -1,0 +1,17 @@
+use Rattle.std.proofs.Common.{◌≡◌, ◌≤◌, ◌-◌, IsSome}
+use Rattle.pnm_frames.specs.Keeps.{ReadsOn}
+use Rattle.pnm_frames.specs.Reading.{white_at}
+use Rattle.pnm_frames.proofs.header.skip_white.Given as goal
+
+-- white space goes on from here
+abbrev pub invariant-loop-b : goal.invariant-loop-b
+invariant-loop-b g l = record {
+  reads : IsSome (g.F.Frames.source l.fn.f).files →
+      white_at l.fn.at (g.F.Frames.reading l.fn.f).left ≡ white_at l.at (g.F.Frames.reading l.f).left;
+  place : l.at ≤ 4096;
+  keeps : ReadsOn (g.F.Frames.source l.fn.f) (g.F.Frames.source l.f) (g.F.Frames.reading l.fn.f) (g.F.Frames.reading l.f);
+  faults : g.F.Frames.faults l.f ≡ g.F.Frames.faults l.fn.f;
+}
+
+abbrev pub decreases-loop-b : goal.decreases-loop-b
+decreases-loop-b g l = 4096 - l.at

@@ -1,0 +1,58 @@
+-- The grammar of a file: ppm(5), magic P6, maxval 4095, without comments.
+use Rattle.std.specs.Prelude.{ℕ, ◌≡◌, ◌<◌, ◌≤◌, ◌+◌, ◌*◌, ◌-◌, Bool, true, ◌||◌, ◌==◌, List, [], ◌∷◌, ◌++◌, length, All}
+use Rattle.std.specs.Char.{is_ascii_digit}
+use Rattle.pnm_frames.specs.Picture.{Picture, raster}
+
+-- space, TAB, LF and CR
+abbrev pub is_white : ℕ → Bool
+is_white b = b == 32 || b == 9 || b == 10 || b == 13
+
+-- what the digits are worth behind a number n
+abbrev pub value_from : ℕ → List ℕ → ℕ
+value_from n [] = n
+value_from n (digit ∷ digits) = value_from (10 * n + (digit - 48)) digits
+
+-- one or more white space bytes
+pub record IsGap (gap : List ℕ) : Type 0 where
+  pub some : 0 < length gap
+  pub white : All (λ b. is_white b ≡ true) gap
+
+-- one or more ASCII digits, leading zeros allowed, that are worth n
+pub record IsNumeral (digits : List ℕ) (n : ℕ) : Type 0 where
+  pub some : 0 < length digits
+  pub ascii : All (λ b. is_ascii_digit b ≡ true) digits
+  pub worth : value_from 0 digits ≡ n
+
+-- the parts of a header
+pub record Parts : Type 0 where
+  pub gap1 : List ℕ
+  pub width : List ℕ
+  pub gap2 : List ℕ
+  pub height : List ℕ
+  pub gap3 : List ℕ
+  pub maxval : List ℕ
+  pub end : ℕ
+
+-- the magic number `P6`, the parts in order, and one byte behind the maxval
+abbrev pub header : Parts → List ℕ
+header parts = 80 ∷ 54 ∷ (parts.gap1 ++ (parts.width ++ (parts.gap2 ++ (parts.height
+    ++ (parts.gap3 ++ (parts.maxval ++ (parts.end ∷ [])))))))
+
+-- the longest header, in bytes
+abbrev pub header_limit : ℕ
+header_limit = 4096
+
+-- Gaps and numbers in turn; the maxval is 4095, a white space byte ends it, and the header isn't too long.
+pub record IsHeader (parts : Parts) (width height : ℕ) : Type 0 where
+  pub gap1 : IsGap parts.gap1
+  pub width_is : IsNumeral parts.width width
+  pub gap2 : IsGap parts.gap2
+  pub height_is : IsNumeral parts.height height
+  pub gap3 : IsGap parts.gap3
+  pub maxval : IsNumeral parts.maxval 4095
+  pub ended : is_white parts.end ≡ true
+  pub short : length (header parts) ≤ header_limit
+
+-- the bytes are a header of the picture's width and height, and its raster
+abbrev pub Spells : List ℕ → Picture → Type 0
+Spells bytes p = (parts : Parts) × IsHeader parts p.width p.height × (bytes ≡ header parts ++ raster p)

@@ -1,0 +1,290 @@
+// Files at the edges of the grammar: what is read of each, and the place of the first fault.
+ghost use Rattle.std.specs.Prelude.{◌≤◌, IsTrue, IfOk};
+ghost use Rattle.cine_ports.specs.Source.{Reading};
+
+use super::*;
+use cine_ports::{Frames, MemoryFrame, MemoryFrames, is_frame_list};
+use std::alloc::{AllocError, Global};
+use std::test::Fail;
+
+/// A frame of one pixel, whose samples differ in both bytes.
+const PIXEL: &[u8] = b"P6\n1 1\n4095\n\x01\x02\x0A\x0B\x0F\xFF";
+
+/// A frame of two rows of one pixel.
+const COLUMN: &[u8] = b"P6 1\t2\r\n04095 \x00\x01\x00\x02\x00\x03\x01\x00\x02\x00\x03\x00";
+
+/// A frame of one row of two pixels.
+const ROW: &[u8] = b"P6\n2 1\n4095\n\x00\x01\x00\x02\x00\x03\x01\x00\x02\x00\x03\x00";
+
+const LIMITS: SizeLimits = SizeLimits {
+    width: 2048,
+    height: 1080,
+};
+
+/// Files whose header is refused, or ends too early.
+const HEADER_FAULTS: &[(&[u8], FrameRefusal)] = &[
+    (b"", FrameRefusal::Truncated(0)),
+    (b"p6", FrameRefusal::NotPpm),
+    (b"P5\n1 1\n4095\n", FrameRefusal::NotPpm),
+    (b"P#", FrameRefusal::NotPpm),
+    (b"P61 1", FrameRefusal::BadHeader(2)),
+    (b"P6#", FrameRefusal::BadHeader(2)),
+    (b"P6\x0B", FrameRefusal::BadHeader(2)),
+    (b"P6\x0C", FrameRefusal::BadHeader(2)),
+    (b"P6\nx", FrameRefusal::BadHeader(3)),
+    (b"P6\n#\n1 1\n4095\n", FrameRefusal::BadHeader(3)),
+    (b"P6\n-1 1", FrameRefusal::BadHeader(3)),
+    (b"P6\n\x00", FrameRefusal::BadHeader(3)),
+    (b"P6\n1#\n1", FrameRefusal::BadHeader(4)),
+    (b"P6\n1\t\r\n #", FrameRefusal::BadHeader(8)),
+    (b"P6\n1 1/", FrameRefusal::BadHeader(6)),
+    (b"P6\n1 1:", FrameRefusal::BadHeader(6)),
+    (b"P6\n1 1\n4095#\n", FrameRefusal::BadHeader(11)),
+    (b"P6\n1 1\n4095\x08", FrameRefusal::BadHeader(11)),
+    // The byte that ends a number is judged before the number.
+    (b"P6\n2049x", FrameRefusal::BadHeader(7)),
+    (b"P6\n1 0x", FrameRefusal::BadHeader(6)),
+    (b"P6\n1 1 255x", FrameRefusal::BadHeader(10)),
+    (b"P6\n2049", FrameRefusal::Truncated(7)),
+    // The first number that is wrong is told.
+    (b"P6\n0 0 0 ", FrameRefusal::WidthOutOfRange),
+    (b"P6\n2049 1\n4095\n", FrameRefusal::WidthOutOfRange),
+    (b"P6\n4294967297 1\n4095\n", FrameRefusal::WidthOutOfRange),
+    (
+        b"P6\n18446744073709551617 1\n4095\n",
+        FrameRefusal::WidthOutOfRange,
+    ),
+    (b"P6\n1 0\n4095\n", FrameRefusal::HeightOutOfRange),
+    (b"P6\n2048 1081\n65535\n", FrameRefusal::HeightOutOfRange),
+    (b"P6\n1 1\n65535\n", FrameRefusal::WrongMaxval),
+    (b"P6\n1 1\n4294971391\n", FrameRefusal::WrongMaxval),
+    (b"P6\n1 1\n4094\n\xFF\xFF", FrameRefusal::WrongMaxval),
+    (b"P6\n1 1\n4096\n", FrameRefusal::WrongMaxval),
+];
+
+/// Files whose raster is refused, or is too short or too long.
+const RASTER_FAULTS: &[(&[u8], FrameRefusal)] = &[
+    (
+        b"P6\n1 1\n4095\n\x08\x00\x10\x00\x08\x00",
+        FrameRefusal::SampleTooLarge(14),
+    ),
+    (b"P6\n1 1\n4095\n\x10\x00", FrameRefusal::SampleTooLarge(12)),
+    (b"P6\n1 1\n4095\n\xFF", FrameRefusal::Truncated(13)),
+    (
+        b"P6\n1 1\n4095\n\x00\x00\x00\x00\xFF\xFF\xFF",
+        FrameRefusal::SampleTooLarge(16),
+    ),
+    (
+        b"P6\n1 2\n4095\n\x00\x00\x00\x00\x00\x00",
+        FrameRefusal::Truncated(18),
+    ),
+    (
+        b"P6\n1 2\n4095\n\x00\x00\x00\x00\x00\x00\x00\x00\x10\x00\xFF\xFF",
+        FrameRefusal::SampleTooLarge(20),
+    ),
+    (
+        b"P6\n1 1\n4095\n\x08\x00\x08\x00\x08",
+        FrameRefusal::Truncated(17),
+    ),
+    (
+        b"P6\n1 1\n4095\n\x08\x00\x08\x00\x08\x00\x00",
+        FrameRefusal::TrailingBytes,
+    ),
+    (
+        b"P6\n1 1\n4095\n\n\x00\x08\x00\x08\x00\x08\x00",
+        FrameRefusal::TrailingBytes,
+    ),
+];
+
+/// A begun frame of these bytes, of whose reads those of these numbers fail, counted from 2, and
+/// which is read by pieces.
+fn begun(alloc: Global, bytes: &[u8], failing: &[u32], piece: u32) -> Result<MemoryFrames, Fail>
+    requires { 1 ≤ piece }
+    ensures { IfOk result (λ frames. IsTrue frames.reading.is_begun) }
+{
+    let mut files = Vec::new(alloc);
+    files.push(MemoryFrame {
+        name: String::from_str(alloc, "a")?,
+        bytes: Vec::from_slice(alloc, bytes)?,
+    })?;
+    if !is_frame_list(files.as_slice()) {
+        return Err(Fail::new("the names aren't in order"));
+    }
+    let mut frames = MemoryFrames::new(files, Vec::from_slice(alloc, failing)?, piece);
+    frames.list()?;
+    if frames.count() == 0 {
+        return Err(Fail::new("no frame"));
+    }
+    frames.begin(0)?;
+    Ok(frames)
+}
+
+/// Why the whole file is refused, or None where it is read.
+fn refusal(alloc: Global, bytes: &[u8]) -> Result<Option<FrameRefusal>, Fail> {
+    let mut frames = begun(alloc, bytes, &[], 5)?;
+    Ok(read_frame(alloc, &mut frames, LIMITS).err())
+}
+
+#[test]
+fn a_faulty_header_is_refused(rt: HostRuntime) -> Result<(), Fail> {
+    let alloc = rt.alloc();
+    for (bytes, want) in HEADER_FAULTS {
+        let mut frames = begun(alloc, bytes, &[], 3)?;
+        let header = read_header(&mut frames, LIMITS);
+        assert!(rt; header == Err(*want), "header of {bytes:?}");
+        assert!(rt; refusal(alloc, bytes)? == Some(*want), "frame of {bytes:?}");
+    }
+    Ok(())
+}
+
+#[test]
+fn a_faulty_raster_is_refused(rt: HostRuntime) -> Result<(), Fail> {
+    let alloc = rt.alloc();
+    for (bytes, want) in RASTER_FAULTS {
+        assert!(rt; refusal(alloc, bytes)? == Some(*want), "{bytes:?}");
+    }
+    Ok(())
+}
+
+#[test]
+fn every_shorter_file_is_truncated(rt: HostRuntime) -> Result<(), Fail> {
+    let alloc = rt.alloc();
+    for file in [PIXEL, COLUMN, ROW] {
+        for n in 0..file.len() {
+            let want = Some(FrameRefusal::Truncated(n as u32));
+            assert!(rt;
+                refusal(alloc, &file[..n])? == want,
+                "{n} bytes of {file:?}"
+            );
+        }
+        assert!(rt; refusal(alloc, file)?.is_none(), "{file:?}");
+    }
+    Ok(())
+}
+
+/// The magic number, LF, and so many more bytes of one kind.
+fn long_header(alloc: Global, byte: u8, count: u32, end: &[u8]) -> Result<Vec<u8>, AllocError> {
+    let mut bytes = Vec::from_slice(alloc, b"P6\n".as_slice())?;
+    for _ in 0..count {
+        bytes.push(byte)?;
+    }
+    bytes.extend_from_slice(end)?;
+    Ok(bytes)
+}
+
+/// The longest header has 4,096 bytes.
+const LONG_HEADERS: &[(u8, u32, &[u8], Option<FrameRefusal>)] = &[
+    (b' ', 4092, b"", Some(FrameRefusal::Truncated(4095))),
+    (b' ', 4093, b"", Some(FrameRefusal::HeaderTooLong)),
+    (b' ', 4093, b"1", Some(FrameRefusal::HeaderTooLong)),
+    (b' ', 4092, b"#", Some(FrameRefusal::BadHeader(4095))),
+    (b'0', 4093, b"", Some(FrameRefusal::HeaderTooLong)),
+    (b'9', 4000, b" ", Some(FrameRefusal::WidthOutOfRange)),
+    (b'9', 4092, b" ", Some(FrameRefusal::WidthOutOfRange)),
+    (b'9', 4093, b" ", Some(FrameRefusal::HeaderTooLong)),
+    (b'9', 5000, b" ", Some(FrameRefusal::HeaderTooLong)),
+    (b' ', 4085, b"1 1 255\n", Some(FrameRefusal::WrongMaxval)),
+    (b' ', 4084, b"1 1 4095\n\x00\x00\x00\x00\x00\x00", None),
+    (b'0', 4084, b"1 1 4095\n\x00\x00\x00\x00\x00\x00", None),
+    (
+        b' ',
+        4085,
+        b"1 1 4095\n\x00\x00\x00\x00\x00\x00",
+        Some(FrameRefusal::HeaderTooLong),
+    ),
+];
+
+#[test]
+fn a_header_has_at_most_4096_bytes(rt: HostRuntime) -> Result<(), Fail> {
+    let alloc = rt.alloc();
+    for (byte, count, end, want) in LONG_HEADERS {
+        let bytes = long_header(alloc, *byte, *count, end)?;
+        assert!(rt;
+            refusal(alloc, bytes.as_slice())? == *want,
+            "{count} times {byte} and {end:?}"
+        );
+    }
+    Ok(())
+}
+
+#[test]
+fn pictures_are_read(rt: HostRuntime) -> Result<(), Fail> {
+    let alloc = rt.alloc();
+    for (bytes, width, height) in [(COLUMN, 1, 2), (ROW, 2, 1)] {
+        for piece in [1, 5, 100] {
+            let mut frames = begun(alloc, bytes, &[], piece)?;
+            let frame = read_frame(alloc, &mut frames, LIMITS)?;
+            assert!(rt; frame.width == width && frame.height == height);
+            assert!(rt; frame.x.as_slice() == [1, 256].as_slice());
+            assert!(rt; frame.y.as_slice() == [2, 512].as_slice());
+            assert!(rt; frame.z.as_slice() == [3, 768].as_slice());
+        }
+    }
+    let frame = read_frame(alloc, &mut begun(alloc, PIXEL, &[], 100)?, LIMITS)?;
+    assert!(rt; frame.x.as_slice() == [258].as_slice());
+    assert!(rt; frame.y.as_slice() == [2571].as_slice());
+    assert!(rt; frame.z.as_slice() == [4095].as_slice());
+    Ok(())
+}
+
+/// A file of grey pixels.
+fn grey(alloc: Global, header: &[u8], count: u32) -> Result<Vec<u8>, AllocError> {
+    let mut bytes = Vec::from_slice(alloc, header)?;
+    for _ in 0..count {
+        bytes.extend_from_slice(b"\x08\x00\x08\x00\x08\x00".as_slice())?;
+    }
+    Ok(bytes)
+}
+
+#[test]
+fn sides_up_to_the_limits_are_read(rt: HostRuntime) -> Result<(), Fail> {
+    let alloc = rt.alloc();
+    let wide = grey(alloc, b"P6\n2048 1\n4095\n", 2048)?;
+    assert!(rt; refusal(alloc, wide.as_slice())?.is_none());
+    let high = grey(alloc, b"P6\n1 1080\n4095\n", 1080)?;
+    assert!(rt; refusal(alloc, high.as_slice())?.is_none());
+    let larger = SizeLimits {
+        width: 4096,
+        height: 2160,
+    };
+    let mut frames = begun(alloc, b"P6\n4096 2160\n4095\n", &[], 7)?;
+    let want = Header {
+        width: 4096,
+        height: 2160,
+        bytes: 18,
+    };
+    assert!(rt; read_header(&mut frames, larger) == Ok(want));
+    let mut frames = begun(alloc, b"P6\n2049 1081\n4095\n", &[], 7)?;
+    assert!(rt; read_header(&mut frames, larger).is_ok());
+    Ok(())
+}
+
+#[test]
+fn a_failed_read_is_refused_at_once(rt: HostRuntime) -> Result<(), Fail> {
+    let alloc = rt.alloc();
+    // Of single bytes each is one read, and the end is one more.
+    for n in 0..PIXEL.len() + 1 {
+        let mut frames = begun(alloc, PIXEL, &[2 + n as u32], 1)?;
+        let read = read_frame(alloc, &mut frames, LIMITS);
+        assert!(rt; read.err() == Some(FrameRefusal::Source), "read {n}");
+    }
+    Ok(())
+}
+
+#[test]
+fn rows_are_read_one_by_one(rt: HostRuntime) -> Result<(), Fail> {
+    let alloc = rt.alloc();
+    let mut frames = begun(alloc, COLUMN, &[], 4)?;
+    let header = read_header(&mut frames, LIMITS)?;
+    assert_eq!(rt; header.bytes, 14);
+    let mut at = header.bytes;
+    let mut scratch = [0; 6];
+    let mut row = [0; 3];
+    read_row(&mut frames, &mut at, &mut scratch, &mut row)?;
+    assert!(rt; row == [1, 2, 3]);
+    read_row(&mut frames, &mut at, &mut scratch, &mut row)?;
+    assert!(rt; row == [256, 512, 768]);
+    assert_eq!(rt; at, 26);
+    expect_end(&mut frames)?;
+    Ok(())
+}
