@@ -1,4 +1,5 @@
 pub mod Codestream
+pub mod Distortion
 pub mod Fields
 pub mod Line
 pub mod MainHeader

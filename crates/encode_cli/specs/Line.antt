@@ -3,6 +3,7 @@ use Rattle.std.specs.Prelude.{ℕ, ◌+◌, ◌/◌, ◌%◌, ◌||◌, ◌&&◌
 use Rattle.std.specs.List.{flat_map}
 use Rattle.pnm_frames.specs.Fault.{Fault, NotPpm, BadHeader, HeaderTooLong, WrongMaxval, WidthOutOfRange, HeightOutOfRange, SampleTooLarge, Truncated, TrailingBytes}
 use Rattle.encode_cli.specs.declared.limits.TheConstants.{FRAME_LIMIT, COMPONENT_LIMIT}
+use Rattle.encode_cli.specs.declared.account.Account.{Account}
 
 -- whether a byte of a name is printed as it is: ASCII letters, digits, '.', '_' and '-'
 abbrev pub is_plain : ℕ → Bool
@@ -39,10 +40,16 @@ budgets frame part =
     ++ (codes " " ++ (budget (codes "c1") part COMPONENT_LIMIT
     ++ (codes " " ++ budget (codes "c2") part COMPONENT_LIMIT)))))
 
--- the line of a frame that was written without any coding pass
-abbrev pub ok_line : List ℕ → ℕ → ℕ → ℕ → ℕ → List ℕ
-ok_line name width height frame part =
-    ok_head name width height ++ (codes " " ++ (budgets frame part ++ codes " passes=0\n"))
+-- the number of coding passes, the distortion without any, and the distortion with those that are chosen
+abbrev pub passes : ℕ → ℕ → ℕ → List ℕ
+passes count empty distortion =
+    codes "passes=" ++ (decimal count ++ (codes " empty=" ++ (decimal empty ++ (codes " distortion=" ++ decimal distortion))))
+
+-- the line of a frame that was written without any coding pass, by its account
+abbrev pub ok_line : List ℕ → Account → List ℕ
+ok_line name a =
+    ok_head name a.width a.height
+    ++ (codes " " ++ (budgets a.frame a.part ++ (codes " " ++ (passes 0 a.empty a.empty ++ codes "\n"))))
 
 -- a fault as it is printed: its code, its word, and behind these the place or the number of bytes, if it tells one
 abbrev pub fault_words : Fault → List ℕ

@@ -11,7 +11,9 @@ use Rattle.pnm_frames.specs.Reading.{frame_of}
 use Rattle.pnm_frames.specs.View.{picture_of}
 use Rattle.encode_cli.specs.declared.limits.TheConstants.{FRAME_LIMIT, COMPONENT_LIMIT}
 use Rattle.encode_cli.specs.Codestream.{codestream, empty_parts, packet_count, part_length}
+use Rattle.encode_cli.specs.Distortion.{empty_distortion}
 use Rattle.encode_cli.specs.Line.{ok_line, refused_line}
+use Rattle.encode_cli.specs.declared.account.Account.{Account}
 
 -- the sizes of the 2K profile
 abbrev pub sizes_2k : SizeLimits
@@ -56,10 +58,19 @@ outputs_of_found name (Err fault) = []
 abbrev pub outputs_of : Visit → List File
 outputs_of visit = outputs_of_found visit.name visit.found
 
+-- what the line of a picture tells
+abbrev pub account_of : Picture → Account
+account_of p = record {
+  width = p.width;
+  height = p.height;
+  frame = length (empty_codestream_of p);
+  part = part_length (replicate (packet_count p.width p.height) 0);
+  empty = empty_distortion p;
+}
+
 -- the line of a frame
 abbrev pub line_of_found : List ℕ → Result Picture Fault → List ℕ
-line_of_found name (Ok p) =
-    ok_line name p.width p.height (length (empty_codestream_of p)) (part_length (replicate (packet_count p.width p.height) 0))
+line_of_found name (Ok p) = ok_line name (account_of p)
 line_of_found name (Err fault) = refused_line name fault
 
 abbrev pub line_of : Visit → List ℕ

@@ -1,8 +1,9 @@
 // The lines of the report.
 ghost use Rattle.std.specs.Prelude.{◌≡◌, ◌<◌, ◌++◌, IfOk, IfSome, OnOk, IsTrue, string_bytes};
-ghost use Rattle.encode_cli.specs.Line.{is_plain, hex_digit, escaped_byte, escaped, budget, budgets, ok_head, ok_line, fault_words, refused_line};
+ghost use Rattle.encode_cli.specs.Line.{is_plain, hex_digit, escaped_byte, escaped, budget, budgets, ok_head, passes, ok_line, fault_words, refused_line};
 ghost use Rattle.pnm_frames.specs.Fault.{fault_of};
 
+use crate::account::Account;
 use crate::limits::{COMPONENT_LIMIT, FRAME_LIMIT};
 use pnm_frames::FrameRefusal;
 use std::alloc::{AllocError, Global};
@@ -74,21 +75,23 @@ fn budgets(alloc: Global, frame: u32, part: u32) -> Result<String, AllocError>
     format!(in alloc; "{frame} {c0} {c1} {c2}")
 }
 
-/// The line of a frame that was written: its name, its size in samples, and how many bytes its codestream
-/// and each of its tile-parts hold.
-pub fn ok_line(
-    alloc: Global,
-    name: &str,
-    width: u32,
-    height: u32,
-    frame: u32,
-    part: u32,
-) -> Result<String, AllocError>
-    ensures { IfOk result (λ line. string_bytes line ≡ ok_line name.now width height frame part) }
+/// How many coding passes there are, the distortion without any, and the distortion with those that are
+/// chosen, both in units of half a step squared.
+fn passes(alloc: Global, count: u32, empty: u128, distortion: u128) -> Result<String, AllocError>
+    ensures { IfOk result (λ text. string_bytes text ≡ passes count empty distortion) }
 {
-    let head = ok_head(alloc, name, width, height)?;
-    let budgets = budgets(alloc, frame, part)?;
-    format!(in alloc; "{head} {budgets} passes=0\n")
+    format!(in alloc; "passes={count} empty={empty} distortion={distortion}")
+}
+
+/// The line of a frame that was written without any coding pass: its name, its size in samples, how many
+/// bytes its codestream and each of its tile-parts hold, and its distortion.
+pub fn ok_line(alloc: Global, name: &str, account: Account) -> Result<String, AllocError>
+    ensures { IfOk result (λ line. string_bytes line ≡ ok_line name.now account) }
+{
+    let head = ok_head(alloc, name, account.width, account.height)?;
+    let budgets = budgets(alloc, account.frame, account.part)?;
+    let passes = passes(alloc, 0, account.empty, account.empty)?;
+    format!(in alloc; "{head} {budgets} {passes}\n")
 }
 
 /// A fault of a file as it is printed: its code, its word, and the place or the number of bytes where it

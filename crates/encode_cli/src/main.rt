@@ -9,6 +9,7 @@
 //! ```
 #![tactic(auto)]
 
+mod account;
 mod codestream;
 mod fields;
 mod limits;

@@ -20,7 +20,8 @@ const DEEP: &[u8] = b"P6\n1 1\n65535\n\x08\x00\x08\x00\x08\x00";
 /// The same with a first sample of 4096.
 const LARGE: &[u8] = b"P6\n1 1\n4095\n\x10\x00\x08\x00\x08\x00";
 
-/// The codestream of a frame of one pixel, written out by hand from the tables of the standard.
+/// The codestream of a frame of one pixel. The bytes come from a dump that was made by two programs which share no
+/// code with this one.
 #[rattlefmt::skip]
 const CODESTREAM: &[u8] = &[
     0xFF, 0x4F,
@@ -41,9 +42,8 @@ const CODESTREAM: &[u8] = &[
     0xFF, 0xD9,
 ];
 
-/// The line of such a frame behind its name.
-const BUDGETS: &str =
-    "2k 1x1 frame=191/1302083/0 c0=20/1041666/0 c1=20/1041666/0 c2=20/1041666/0 passes=0";
+/// The budgets of such a frame.
+const BUDGETS: &str = "2k 1x1 frame=191/1302083/0 c0=20/1041666/0 c1=20/1041666/0 c2=20/1041666/0";
 
 const COMMAND: &str = "encode src dst --profile 2k";
 
@@ -119,9 +119,45 @@ fn each_frame_has_its_output_and_its_line(rt: HostRuntime) -> Result<(), Fail> {
     assert_eq!(rt; ended.outputs.files().len(), 2);
     assert!(rt; is_file(ended.outputs.files().get(0), "a.j2c", CODESTREAM));
     assert!(rt; is_file(ended.outputs.files().get(1), "f~.j2c", CODESTREAM));
-    let first = format!(in alloc; "ok a {BUDGETS}\nrefused e 4 WrongMaxval\n")?;
-    let said = format!(in alloc; "{first}ok f%7E {BUDGETS}\nrefused g 7 SampleTooLarge 12\n")?;
+    let first = format!(in alloc;
+        "ok a {BUDGETS} passes=0 empty=0 distortion=0\nrefused e 4 WrongMaxval\n"
+    )?;
+    let said = format!(in alloc;
+        "{first}ok f%7E {BUDGETS} passes=0 empty=0 distortion=0\nrefused g 7 SampleTooLarge 12\n"
+    )?;
     assert!(rt; ended.report.bytes() == said.as_bytes());
+    Ok(())
+}
+
+/// A frame of one pixel, its three samples the same.
+fn pixel(alloc: Global, high: u8, low: u8) -> Result<Vec<u8>, AllocError> {
+    let mut bytes = Vec::from_slice(alloc, b"P6\n1 1\n4095\n")?;
+    for _plane in 0..3 {
+        bytes.push(high)?;
+        bytes.push(low)?;
+    }
+    Ok(bytes)
+}
+
+#[test]
+fn a_line_tells_the_distortion(rt: HostRuntime) -> Result<(), Fail> {
+    let alloc = rt.alloc();
+    let mut files = Vec::new(alloc);
+    files.push(file(alloc, "b", pixel(alloc, 0x0F, 0xFF)?.as_slice())?)?;
+    files.push(file(alloc, "c", pixel(alloc, 0, 0)?.as_slice())?)?;
+    files.push(file(alloc, "d", pixel(alloc, 8, 1)?.as_slice())?)?;
+    let ended = run_over(alloc, COMMAND, files, &[], &[])?;
+    assert_eq!(rt; ended.status, 0);
+    let b = format!(in alloc;
+        "ok b {BUDGETS} passes=0 empty=68652908289 distortion=68652908289\n"
+    )?;
+    let c = format!(in alloc;
+        "ok c {BUDGETS} passes=0 empty=68720001025 distortion=68720001025\n"
+    )?;
+    let d = format!(in alloc; "ok d {BUDGETS} passes=0 empty=16641 distortion=16641\n")?;
+    let said = format!(in alloc; "{b}{c}{d}")?;
+    assert!(rt; ended.report.bytes() == said.as_bytes());
+    assert!(rt; is_file(ended.outputs.files().get(2), "d.j2c", CODESTREAM));
     Ok(())
 }
 
@@ -136,7 +172,7 @@ fn a_fault_of_the_outputs_ends_a_run(rt: HostRuntime) -> Result<(), Fail> {
     assert_eq!(rt; ended.outputs.files().len(), 1);
     assert!(rt; is_file(ended.outputs.files().get(0), "a.j2c", CODESTREAM));
     assert!(rt; is_file(ended.outputs.unfinished(), "d.j2c", &CODESTREAM[..100]));
-    let said = format!(in alloc; "ok a {BUDGETS}\n")?;
+    let said = format!(in alloc; "ok a {BUDGETS} passes=0 empty=0 distortion=0\n")?;
     assert!(rt; ended.report.bytes() == said.as_bytes());
     Ok(())
 }
@@ -204,7 +240,7 @@ fn folder_to_folder(rt: HostRuntime) -> Result<(), Fail> {
     assert_eq!(rt; status, 0);
     let written = fs::read(&rt, "test-run/dst/a.j2c")?;
     assert!(rt; written.as_slice() == CODESTREAM);
-    let said = format!(in alloc; "ok a {BUDGETS}\n")?;
+    let said = format!(in alloc; "ok a {BUDGETS} passes=0 empty=0 distortion=0\n")?;
     assert!(rt; report.bytes() == said.as_bytes());
     fs::remove_dir_all(&rt, "test-run")?;
     Ok(())

@@ -8,6 +8,7 @@ ghost use Rattle.encode_cli.specs.Put.{kept_and};
 ghost use Rattle.encode_cli.specs.Stop.{HasStopCause, counts};
 ghost use Rattle.encode_cli.specs.Visit.{output_name, outputs_of, line_of, accepted, refused, BrokenOff};
 
+use crate::account::account_of;
 use crate::codestream::empty_codestream;
 use crate::lines::{ok_line, refused_line};
 use crate::put::put_output;
@@ -51,8 +52,8 @@ pub fn write_frame<O: Outputs, S: Report>(
 {
     let output = output_name(alloc, name)?;
     let made = empty_codestream(alloc, frame.width, frame.height)?;
-    let held = made.bytes.len() as u32;
-    let line = ok_line(alloc, name, frame.width, frame.height, held, made.part)?;
+    let account = account_of(alloc, frame, &made)?;
+    let line = ok_line(alloc, name, account)?;
     match put_output(outputs, output.as_str(), made.bytes.as_slice()) {
         Ok(()) => {}
         Err(fault) => return Err(Stop::of_outputs(fault)),

@@ -1,7 +1,8 @@
-use Rattle.std.proofs.Common.{rules, ◌≡◌, ℕ, length, ◌∙◌, ap}
+use Rattle.std.proofs.Common.{◌≡◌, ◌∙◌, ap, option_map}
+use Rattle.cine_ports.specs.Moves.{said_with}
 use Rattle.encode_cli.specs.Line.{ok_line}
 use Rattle.pnm_frames.specs.View.{picture_of}
-use Rattle.encode_cli.specs.Visit.{empty_codestream_of, line_of, accepted}
+use Rattle.encode_cli.specs.Visit.{line_of, accepted}
 use Rattle.encode_cli.proofs.Breaks.{put_broken, put_made, say_broken}
 use Rattle.encode_cli.proofs.written.write_frame.Goals as goal
 
@@ -18,15 +19,16 @@ returns-in-Ok-say-clause-written g c =
     (g.O.Outputs.kept c.args.outputs.now) (g.O.Outputs.kept c.put_output.new.outputs)
     (c.as_str.ensures.value ∙ c.in_ok-output.ensures) (c.as_slice.ensures.value ∙ c.in_ok-made.ensures.bytes) c.in-Ok.ensures.ok
 
+pub returns-in-Ok-say-clause-said : goal.returns-in-Ok-say-clause-said
+returns-in-Ok-say-clause-said g c =
+    c.in-Ok-say.ensures.ok ∙ ap (λ bytes. option_map (said_with bytes) (g.S.Report.said c.args.report.now))
+    (c.as_bytes.ensures.value ∙ c.in_ok-line.ensures ∙ ap (ok_line c.args.name.now) c.in_ok-account.ensures)
+
 pub returns-clause-err : goal.returns-clause-err
 returns-clause-err g c =
     let p = picture_of c.args.frame.now in
-    let counted : c.len-held.result ≡ length c.in_ok-made.made.bytes.items = search rules in
-    let held : c.len-held.result ≡ length (empty_codestream_of p) = counted ∙ ap (length {A = ℕ}) c.in_ok-made.ensures.bytes in
     let said : c.as_bytes.result.now ≡ line_of (accepted c.args.name.now c.args.frame.now) =
-    c.as_bytes.ensures.value ∙ c.in_ok-line.ensures
-    ∙ ap (λ (n : ℕ). ok_line c.args.name.now p.width p.height n c.in_ok-made.made.part) held
-    ∙ ap (ok_line c.args.name.now p.width p.height (length (empty_codestream_of p))) c.in_ok-made.ensures.part in
+    c.as_bytes.ensures.value ∙ c.in_ok-line.ensures ∙ ap (ok_line c.args.name.now) c.in_ok-account.ensures in
     say_broken (accepted c.args.name.now c.args.frame.now) c.as_bytes.result.now
     (g.O.Outputs.kept c.args.outputs.now) (g.O.Outputs.kept c.put_output.new.outputs) (g.S.Report.said c.args.report.now) (g.S.Report.said c.say.new.report)
     said
