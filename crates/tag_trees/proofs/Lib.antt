@@ -1,5 +1,6 @@
 pub mod BitLemmas
 pub mod PackLemmas
+pub mod SpillLemmas
 pub mod TakeLemmas
 pub mod NodeLemmas
 pub mod NodeLoops

@@ -17,6 +17,21 @@ pub record Keeps (bytes : List ℕ) (part filled width : ℕ) : Type 0 where
   pub few : length (useful false bytes) + filled ≤ 7000
   pub stuffed : IsStuffed false bytes
 
+-- Whole bytes, and bits behind them that may fill more: `filled` bits, which are those of the number `held`; at most 7,000 bits.
+pub record Spills (bytes : List ℕ) (held filled width : ℕ) (bits : List Bool) : Type 0 where
+  pub width_is : width ≡ width_behind (ends_in_ff false bytes)
+  pub below : held < 2 ^ filled
+  pub few : length bits ≤ 7000
+  pub stuffed : IsStuffed false bytes
+  pub bits_are : useful false bytes ++ number filled held ≡ bits
+
+-- a counter of so many whole bytes, with a byte begun behind them, has counted these bits, so many in all
+pub record Counts (whole part filled width all : ℕ) (bits : List Bool) : Type 0 where
+  pub bytes : List ℕ
+  pub whole_are : length bytes ≡ whole
+  pub all_are : length bits ≡ all
+  pub spills : Spills bytes part filled width bits
+
 -- all but the last `left` bits of the first `opened` bytes
 abbrev pub opened_bits : List ℕ → ℕ → ℕ → List Bool
 opened_bits bytes opened left = let whole = useful false (take opened bytes) in take (length whole - left) whole

@@ -5,6 +5,8 @@ ghost use Rattle.tag_trees.specs.Bits.{number, useful};
 ghost use Rattle.tag_trees.specs.Stuffing.{packed, Stuffs};
 ghost use Rattle.tag_trees.specs.BitState.{Keeps};
 
+use crate::bit_sink::BitSink;
+use crate::spill::{held_with, high_byte, low_bits};
 use crate::width::width_after;
 use arrayvec::ArrayVec;
 use std::marker::Model;
@@ -72,5 +74,27 @@ impl BitOut {
             bytes.push(0);
         }
         bytes
+    }
+}
+
+impl BitSink for BitOut {
+    ghost StandsFor = { λ s bits. s ≡ bits };
+
+    ghost bit_count = { λ s. length s };
+
+    fn put_number(&mut self, width: u32, value: u64) {
+        let mut held = held_with(u32::from(self.part), width, value);
+        let mut filled = u32::from(self.filled) + width;
+        let mut full = u32::from(self.width);
+        while filled >= full {
+            filled -= full;
+            let byte = high_byte(held, filled);
+            held = low_bits(held, filled);
+            self.bytes.push(byte);
+            full = u32::from(width_after(byte));
+        }
+        self.part = held as u8;
+        self.filled = filled as u8;
+        self.width = full as u8;
     }
 }

@@ -1,11 +1,11 @@
 // A node of a tag tree.
-ghost use Rattle.std.specs.Prelude.{◌≡◌, ◌+◌, ◌<◌, ◌≤◌, ◌++◌, ◌&&◌, [], length, max, nat_lt, false, IfOk, IfErr};
+ghost use Rattle.std.specs.Prelude.{List, Bool, ◌≡◌, ◌+◌, ◌<◌, ◌≤◌, ◌++◌, ◌&&◌, [], length, max, nat_lt, false, IfOk, IfErr};
 ghost use Rattle.tag_trees.specs.NodeStep.{IsStep, step_bits, AllowsValue, RunsOut};
 ghost use Rattle.tag_trees.specs.BitState.{Took};
 ghost use Rattle.tag_trees.specs.Stuffing.{fault_of};
 
 use crate::bit_in::BitIn;
-use crate::bit_out::BitOut;
+use crate::bit_sink::BitSink;
 use crate::fault::BitFault;
 
 // What a tree keeps of a node: its value, where the tree is written, and a lower bound, which is the value
@@ -40,31 +40,34 @@ impl Node {
 
     // Writes the node up to a threshold, from a bound of its parent on, and answers what it keeps: a 0 for each
     // step of the bound up to the value, and a 1 where the value is below the threshold.
-    pub fn write(self, start: u8, threshold: u8, out: &mut BitOut) -> Node
+    pub fn write<S: BitSink>(self, start: u8, threshold: u8, out: &mut S) -> Node
         requires threshold { threshold ≤ 32 }
-        requires room { length out.old + 100 ≤ 7000 }
+        requires room { S.bit_count out.old + 100 ≤ 7000 }
         ensures value { result.value ≡ self.value }
         ensures step { IsStep (max self.bound start) threshold self.known result.bound result.known }
-        ensures bits { out.new ≡ out.old ++ step_bits (max self.bound start) self.known result.bound result.known }
-        ensures few { length out.new ≤ length out.old + 33 }
+        ensures bits { (bits : List Bool) → S.StandsFor out.old bits → S.StandsFor out.new (bits ++ step_bits (max self.bound start) self.known result.bound result.known) }
+        ensures count { S.bit_count out.new ≡ S.bit_count out.old + length (step_bits (max self.bound start) self.known result.bound result.known) }
+        ensures few { S.bit_count out.new ≤ S.bit_count out.old + 33 }
         ensures allowed { AllowsValue self.known (max self.bound start) self.value → AllowsValue result.known result.bound self.value }
     {
-        let mut bound = self.bound.max(start);
+        let from = self.bound.max(start);
         if self.known {
-            return Node { bound, ..self };
+            return Node {
+                bound: from,
+                ..self
+            };
         }
-        while bound < threshold {
-            if self.value <= bound {
-                out.put(true);
-                return Node {
-                    value: self.value,
-                    bound,
-                    known: true,
-                };
-            }
-            out.put(false);
-            bound += 1;
+        let bound = self.value.max(from);
+        if bound < threshold {
+            out.put_number(u32::from(bound - from) + 1, 1);
+            return Node {
+                value: self.value,
+                bound,
+                known: true,
+            };
         }
+        let bound = threshold.max(from);
+        out.put_number(u32::from(bound - from), 0);
         Node { bound, ..self }
     }
 

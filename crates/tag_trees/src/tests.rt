@@ -2,7 +2,7 @@
 ghost use Rattle.std.specs.Prelude.{◌≡◌, ◌<◌, length};
 ghost use Rattle.tag_trees.specs.Stuffing.{packed};
 
-use crate::{BitFault, BitIn, BitOut, Tree};
+use crate::{BitCount, BitFault, BitIn, BitOut, BitSink, Tree};
 use arrayvec::ArrayVec;
 
 fn bytes_of(bits: &[bool]) -> ArrayVec<u8, 1024>
@@ -60,4 +60,26 @@ fn writes_and_reads_two_leaves(rt: HostRuntime) {
     assert_eq!(rt; tree.read_upto(0, 0, 4, &mut bits), Ok(true));
     assert_eq!(rt; tree.read_upto(1, 0, 6, &mut bits), Ok(true));
     assert_eq!(rt; bits.finish(), Ok(1));
+}
+
+#[test]
+fn counts_ones(rt: HostRuntime) {
+    let mut count = BitCount::new();
+    assert_eq!(rt; count.finish(), 0);
+    count = BitCount::new();
+    count.put_number(8, 0xff);
+    assert_eq!(rt; count.finish(), 2);
+    count = BitCount::new();
+    count.put_number(15, 0x7fff);
+    count.put_number(0, 0);
+    assert_eq!(rt; count.finish(), 2);
+    count = BitCount::new();
+    count.put_number(16, 0xffff);
+    assert_eq!(rt; count.finish(), 3);
+
+    let mut out = BitOut::new();
+    out.put_number(3, 0b101);
+    out.put_number(10, 0b11111_00000);
+    // 10111111 00000
+    assert_eq!(rt; out.finish().as_slice(), [0xbf, 0x00].as_slice());
 }

@@ -2,7 +2,7 @@
 ghost use Rattle.std.specs.Prelude.{◌≡◌, ℕ, ◌+◌, ◌*◌, ◌<◌, ◌≤◌};
 
 use crate::bit_in::BitIn;
-use crate::bit_out::BitOut;
+use crate::bit_sink::BitSink;
 use crate::fault::BitFault;
 use crate::node::Node;
 
@@ -111,21 +111,21 @@ impl Tree {
     /// Writes the leaf of this column and row up to a threshold of at most 32, behind the earlier writings:
     /// the bits of the nodes from the root down to the leaf, in which they come to say whether its value is
     /// below the threshold.
-    pub fn write_upto(&mut self, x: u8, y: u8, threshold: u8, out: &mut BitOut)
+    pub fn write_upto<S: BitSink>(&mut self, x: u8, y: u8, threshold: u8, out: &mut S)
         requires column { x < width_of self.old }
         requires row { y < height_of self.old }
         requires threshold { threshold ≤ 32 }
-        requires room { length out.old + 700 ≤ 7000 }
+        requires room { S.bit_count out.old + 700 ≤ 7000 }
         ensures width { width_of self.new ≡ width_of self.old }
         ensures height { height_of self.new ≡ height_of self.old }
 
-        // whatever numbering and writings the tree stands for
-        ensures bits { (value : ℕ → ℕ) (earlier : List Writing) → IsWritten self.old value earlier →
-            out.new ≡ out.old ++ bits_of_writing (levels_of self.old) value earlier (record { column = x; row = y; threshold = threshold }) }
+        // whatever numbering and writings the tree stands for, and bits the sink
+        ensures bits { (value : ℕ → ℕ) (earlier : List Writing) (bits : List Bool) → IsWritten self.old value earlier → S.StandsFor out.old bits →
+            S.StandsFor out.new (bits ++ bits_of_writing (levels_of self.old) value earlier (record { column = x; row = y; threshold = threshold })) }
         ensures written { (value : ℕ → ℕ) (earlier : List Writing) → IsWritten self.old value earlier →
             IsWritten self.new value (earlier ++ (record { column = x; row = y; threshold = threshold }) ∷ []) }
-        ensures few { (value : ℕ → ℕ) (earlier : List Writing) → IsWritten self.old value earlier → length out.new ≤ length out.old + (threshold + 3) }
-        ensures most { length out.new ≤ length out.old + 99 }
+        ensures few { (value : ℕ → ℕ) (earlier : List Writing) → IsWritten self.old value earlier → S.bit_count out.new ≤ S.bit_count out.old + (threshold + 3) }
+        ensures most { S.bit_count out.new ≤ S.bit_count out.old + 99 }
     {
         let leaf = 4 * y as usize + x as usize;
         let middle = 16 + (2 * (y as usize / 2) + x as usize / 2);
@@ -214,13 +214,14 @@ impl Tree {
     }
 
     // One node of a writing; answers the bound that it then has.
-    fn write_node(&mut self, node: usize, start: u8, threshold: u8, out: &mut BitOut) -> u8
+    fn write_node<S: BitSink>(&mut self, node: usize, start: u8, threshold: u8, out: &mut S) -> u8
         requires node { node < 21 }
         requires threshold { threshold ≤ 32 }
-        requires room { length out.old + 100 ≤ 7000 }
+        requires room { S.bit_count out.old + 100 ≤ 7000 }
         ensures step { NodeStep self.old node start threshold self.new }
-        ensures bits { out.new ≡ out.old ++ bits_of_step self.old node start self.new }
-        ensures few { length out.new ≤ length out.old + 33 }
+        ensures bits { (bits : List Bool) → S.StandsFor out.old bits → S.StandsFor out.new (bits ++ bits_of_step self.old node start self.new) }
+        ensures count { S.bit_count out.new ≡ S.bit_count out.old + length (bits_of_step self.old node start self.new) }
+        ensures few { S.bit_count out.new ≤ S.bit_count out.old + 33 }
         ensures allowed { AllowsValue (known_of self.old node) (max (bound_of self.old node) start) (value_of self.old node) →
             AllowsValue (known_of self.new node) (bound_of self.new node) (value_of self.old node) }
         ensures bound { result ≡ bound_of self.new node }

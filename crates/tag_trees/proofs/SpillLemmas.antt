@@ -1,0 +1,203 @@
+-- What a sink keeps while the bits of a number fill its bytes.
+use Rattle.std.proofs.Common.{◌≡◌, ℕ, suc, zero, ◌+◌, ◌-◌, ◌*◌, ◌/◌, ◌%◌, ◌^◌, ◌<◌, ◌≤◌, Bool, true, false, List, [], ◌∷◌, ◌++◌, length, refl, sym, ap, ◌∙◌, arith, append_assoc, length-append, add-one}
+use Rattle.std.specs.Prelude.{◌==◌, replicate, bit_and}
+use Rattle.std.proofs.lemmas.List.{append-nil, replicate_more, length_push}
+use Rattle.std.proofs.lemmas.Nat.{pow-add, div-add-mod', and_mask}
+use Rattle.std.proofs.Math.Pow.{pow_mono}
+use Rattle.std.proofs.Math.Nat.{pow-suc, one-le-pow, mul-le-mul_right, mod-lt, div-lt_iff_lt-mul}
+use Rattle.tag_trees.specs.Bits.{number, width_behind, useful, IsStuffed, ends_in_ff}
+use Rattle.tag_trees.specs.BitState.{Keeps, Spills, Counts}
+use Rattle.tag_trees.specs.Stuffing.{packed}
+use Rattle.tag_trees.proofs.PackLemmas.{finish_part, finish_ff, finish_whole}
+use Rattle.tag_trees.proofs.BitLemmas.{number-length, useful-push, ends-push, stuffed-push, useful-length, width_le}
+
+-- the bits of one number behind those of another
+pub number-join : (a b x y : ℕ) → y < 2 ^ b → number (a + b) (x * 2 ^ b + y) ≡ number a x ++ number b y
+unfolding number
+number-join a zero x y h =
+    let e : x * 2 ^ 0 + y ≡ x = omega arith in
+    let z : a + 0 ≡ a = omega arith in
+    rw (z, e) (sym (append-nil (number a x)))
+number-join a (suc b) x y h =
+    let p : 2 ^ suc b ≡ 2 ^ b * 2 = pow-suc 2 b in
+    let below : y / 2 < 2 ^ b = omega arith in
+    let half : (x * 2 ^ suc b + y) / 2 ≡ x * 2 ^ b + y / 2 = rw p (grind arith) in
+    let odd : (x * 2 ^ suc b + y) % 2 ≡ y % 2 = rw p (grind arith) in
+    let m : a + suc b ≡ suc (a + b) = omega arith in
+    let s : number (a + suc b) (x * 2 ^ suc b + y) ≡ number (suc (a + b)) (x * 2 ^ suc b + y) = ap (λ k. number k (x * 2 ^ suc b + y)) m in
+    s ∙ ap (λ k. number (a + b) k ++ ((x * 2 ^ suc b + y) % 2 == 1) ∷ []) half
+    ∙ ap (λ k. number (a + b) (x * 2 ^ b + y / 2) ++ (k == 1) ∷ []) odd
+    ∙ ap (λ k. k ++ (y % 2 == 1) ∷ []) (number-join a b x (y / 2) below)
+    ∙ append_assoc (number a x) (number b (y / 2)) ((y % 2 == 1) ∷ [])
+
+pub number-split : (a b n : ℕ) → number (a + b) n ≡ number a (n / 2 ^ b) ++ number b (n % 2 ^ b)
+number-split a b n =
+    let p : 0 < 2 ^ b = one-le-pow b 2 (omega arith) in
+    let below : n % 2 ^ b < 2 ^ b = mod-lt n p in
+    ap (number (a + b)) (sym (div-add-mod' n (2 ^ b))) ∙ number-join a b (n / 2 ^ b) (n % 2 ^ b) below
+
+pub number-zeros : (k : ℕ) → number k 0 ≡ replicate k false
+unfolding number
+number-zeros zero = refl
+number-zeros (suc k) = ap (λ r. r ++ false ∷ []) (number-zeros k) ∙ rw add-one at (replicate_more k false)
+
+pub number-one : (k : ℕ) → number (k + 1) 1 ≡ replicate k false ++ true ∷ []
+unfolding number
+number-one k = rw add-one (ap (λ r. r ++ true ∷ []) (number-zeros k))
+
+pub join_below : (part filled value w : ℕ) → part < 2 ^ filled → value < 2 ^ w → part * 2 ^ w + value < 2 ^ (filled + w)
+join_below part filled value w below h =
+    let p : 2 ^ (filled + w) ≡ 2 ^ filled * 2 ^ w = pow-add 2 filled w in
+    let m : (part + 1) * 2 ^ w ≤ 2 ^ filled * 2 ^ w = mul-le-mul_right (2 ^ w) (omega arith) in
+    omega arith
+
+-- a number is added behind a byte begun
+pub spill_more : (bytes : List ℕ) (part filled width value w : ℕ) (bits : List Bool) → Spills bytes part filled width bits → value < 2 ^ w → length bits + w ≤ 7000
+    → Spills bytes (part * 2 ^ w + value) (filled + w) width (bits ++ number w value)
+spill_more bytes part filled width value w bits s h few = record {
+  width_is = s.width_is;
+  below = join_below part filled value w s.below h;
+  few = simp (length-append, number-length) (omega arith);
+  stuffed = s.stuffed;
+  bits_are =
+      ap (λ r. useful false bytes ++ r) (number-join filled w part value h)
+      ∙ sym (append_assoc (useful false bytes) (number filled part) (number w value))
+      ∙ ap (λ r. r ++ number w value) s.bits_are;
+}
+
+-- a byte is full
+pub spill_byte : (bytes : List ℕ) (held filled width left byte low next : ℕ) (bits : List Bool) → Spills bytes held filled width bits → left + width ≡ filled
+    → byte ≡ held / 2 ^ left → low ≡ held % 2 ^ left → next ≡ width_behind (byte == 255) → Spills (bytes ++ byte ∷ []) low left next bits
+spill_byte bytes held filled width left byte low next bits s e b l n =
+    let p : 0 < 2 ^ left = one-le-pow left 2 (omega arith) in
+    let below : held < 2 ^ filled = s.below in
+    let q : 2 ^ filled ≡ 2 ^ left * 2 ^ width = ap (λ k. 2 ^ k) (sym e) ∙ pow-add 2 left width in
+    let same : width + left ≡ filled = omega arith in
+    let fits : byte < 2 ^ width = rw b ((div-lt_iff_lt-mul p).1 (omega arith)) in
+    record {
+      width_is = n ∙ ap width_behind (sym (ends-push false bytes byte));
+      below = rw l (mod-lt held p);
+      few = s.few;
+      stuffed = stuffed-push false bytes byte s.stuffed (rw s.width_is at fits);
+      bits_are =
+          ap (λ r. r ++ number left low) (useful-push false bytes byte)
+          ∙ append_assoc (useful false bytes) (number (width_behind (ends_in_ff false bytes)) byte) (number left low)
+          ∙ ap (λ r. useful false bytes ++ r) (
+          ap (λ k. number k byte ++ number left low) (sym s.width_is)
+          ∙ ap (λ k. number width k ++ number left low) b
+          ∙ ap (λ k. number width (held / 2 ^ left) ++ number left k) l
+          ∙ sym (number-split width left held)
+          ∙ ap (λ k. number k held) same)
+          ∙ s.bits_are;
+    }
+
+-- a byte begun is shorter than its width
+pub spills_keeps : (bytes : List ℕ) (part filled width : ℕ) (bits : List Bool) → Spills bytes part filled width bits → filled < width → Keeps bytes part filled width
+spills_keeps bytes part filled width bits s h = record {
+  width_is = s.width_is;
+  below = s.below;
+  room = h;
+  few = (let l = ap length s.bits_are in omega (arith, s.few, length-append (useful false bytes) (number filled part), number-length filled part));
+  stuffed = s.stuffed;
+}
+
+pub keeps_spills : (bytes : List ℕ) (part filled width : ℕ) (bits : List Bool) → Keeps bytes part filled width → useful false bytes ++ number filled part ≡ bits → Spills bytes part filled width bits
+keeps_spills bytes part filled width bits k e = record {
+  width_is = k.width_is;
+  below = k.below;
+  few = (let l = ap length e in omega (arith, k.few, length-append (useful false bytes) (number filled part), number-length filled part));
+  stuffed = k.stuffed;
+  bits_are = e;
+}
+
+-- the bytes of a sink have room for one more
+pub room_for_spill : (bytes : List ℕ) (held filled width : ℕ) (bits : List Bool) → Spills bytes held filled width bits → length bytes < 1024
+room_for_spill bytes held filled width bits s =
+    let l = ap length s.bits_are in
+    omega (arith, s.few, useful-length false bytes, length-append (useful false bytes) (number filled held))
+
+-- the bits of a byte begun and of a number fit 48 bits
+pub held_small : (part w value : ℕ) → part < 256 → w ≤ 40 → value < 2 ^ w → part * 2 ^ w + value < 2 ^ 48
+held_small part w value a b h =
+    let p : 2 ^ w ≤ 2 ^ 40 = pow_mono b in
+    let m : part * 2 ^ w ≤ 255 * 2 ^ w = mul-le-mul_right (2 ^ w) (omega arith) in
+    omega arith
+
+pub shifted_whole : (part w value : ℕ) → part < 256 → w ≤ 40 → value < 2 ^ w → part * 2 ^ w % 2 ^ 64 ≡ part * 2 ^ w
+shifted_whole part w value a b h = let s = held_small part w value a b h in omega arith
+
+pub mask_is : (held left : ℕ) → left ≤ 40 → bit_and held (1 * 2 ^ left % 18446744073709551616 - 1) ≡ held % 2 ^ left
+mask_is held left h =
+    let p : 2 ^ left ≤ 2 ^ 40 = pow_mono h in
+    let e : 1 * 2 ^ left % 18446744073709551616 ≡ 2 ^ left = omega arith in
+    ap (λ k. bit_and held (k - 1)) e ∙ and_mask held left
+
+-- a byte that is full has 256 values at most
+pub byte_fits : (held filled width left : ℕ) → held < 2 ^ filled → left + width ≡ filled → width ≤ 8 → held / 2 ^ left < 256
+byte_fits held filled width left below e most =
+    let p : 0 < 2 ^ left = one-le-pow left 2 (omega arith) in
+    let q : 2 ^ filled ≡ 2 ^ left * 2 ^ width = ap (λ k. 2 ^ k) (sym e) ∙ pow-add 2 left width in
+    let fits : held / 2 ^ left < 2 ^ width = (div-lt_iff_lt-mul p).1 (omega arith) in
+    let small : 2 ^ width ≤ 2 ^ 8 = pow_mono most in
+    omega arith
+
+pub byte_small : (bytes : List ℕ) (held filled width left : ℕ) (bits : List Bool) → Spills bytes held filled width bits → left + width ≡ filled → held / 2 ^ left < 256
+byte_small bytes held filled width left bits s e =
+    byte_fits held filled width left s.below e (rw s.width_is (width_le (ends_in_ff false bytes)))
+
+-- what is left of them
+pub left_below : (held left low : ℕ) → low ≡ held % 2 ^ left → low < 2 ^ left
+left_below held left low e = rw e (mod-lt held (one-le-pow left 2 (omega arith)))
+
+-- a counter has the same bits as the bytes that it counts
+pub counts_more : (whole part filled width all value w : ℕ) (bits : List Bool) → Counts whole part filled width all bits → value < 2 ^ w → all + w ≤ 7000
+    → Counts whole (part * 2 ^ w + value) (filled + w) width (all + w) (bits ++ number w value)
+counts_more whole part filled width all value w bits s h few =
+    let n : length bits ≡ all = s.all_are in
+    record {
+      bytes = s.bytes;
+      whole_are = s.whole_are;
+      all_are = simp (length-append, number-length) (omega arith);
+      spills = spill_more s.bytes part filled width value w bits s.spills h (omega arith);
+    }
+
+pub counts_byte : (whole held filled width all left byte low next : ℕ) (bits : List Bool) → Counts whole held filled width all bits → left + width ≡ filled
+    → byte ≡ held / 2 ^ left → low ≡ held % 2 ^ left → next ≡ width_behind (byte == 255) → Counts (whole + 1) low left next all bits
+counts_byte whole held filled width all left byte low next bits s e b l n = record {
+  bytes = s.bytes ++ byte ∷ [];
+  whole_are = (let w : length s.bytes ≡ whole = s.whole_are in simp length-append (omega arith));
+  all_are = s.all_are;
+  spills = spill_byte s.bytes held filled width left byte low next bits s.spills e b l n;
+}
+
+-- the number of bytes at the end: one more where a byte is begun, or behind FF
+one_more : (bytes all : List ℕ) (byte whole : ℕ) → length bytes ≡ whole → bytes ++ byte ∷ [] ≡ all → whole + 1 ≡ length all
+one_more bytes all byte whole w e = let l = ap length e in let m = length_push bytes byte in omega arith
+
+pub counts_begun : (whole part filled width all : ℕ) (bits : List Bool) → Counts whole part filled width all bits → filled < width
+    → 0 < filled → whole + 1 ≡ length (packed bits)
+counts_begun whole part filled width all bits s h f =
+    one_more _ _ _ whole s.whole_are (finish_part s.bytes part filled width (spills_keeps s.bytes part filled width bits s.spills h) f ∙ ap packed s.spills.bits_are)
+
+pub counts_ff : (whole part filled width all : ℕ) (bits : List Bool) → Counts whole part filled width all bits → filled < width
+    → filled ≤ 0 → width ≡ 7 → whole + 1 ≡ length (packed bits)
+counts_ff whole part filled width all bits s h f n =
+    one_more _ _ _ whole s.whole_are (finish_ff s.bytes part filled width (spills_keeps s.bytes part filled width bits s.spills h) f n ∙ ap packed s.spills.bits_are)
+
+pub counts_whole : (whole part filled width all : ℕ) (bits : List Bool) → Counts whole part filled width all bits → filled < width
+    → filled ≤ 0 → (width ≡ 7 → ⊥) → whole ≡ length (packed bits)
+counts_whole whole part filled width all bits s h f n =
+    sym s.whole_are ∙ ap length (finish_whole s.bytes part filled width (spills_keeps s.bytes part filled width bits s.spills h) f n ∙ ap packed s.spills.bits_are)
+
+pub counts_none : Counts 0 0 0 8 0 []
+unfolding useful number IsStuffed ends_in_ff
+counts_none = record {
+  bytes = [];
+  whole_are = refl;
+  all_are = refl;
+  spills = record { width_is = refl; below = omega arith; few = omega arith; stuffed = tt; bits_are = refl };
+}
+
+-- a 1 fits any width
+pub one_fits : (k : ℕ) → 1 < 2 ^ (k + 1)
+one_fits k = rw add-one (let p = one-le-pow k 2 (omega arith) in let e = pow-suc 2 k in omega arith)

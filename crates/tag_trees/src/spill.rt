@@ -1,0 +1,32 @@
+// The bits behind whole bytes, as a number.
+ghost use Rattle.std.specs.Prelude.{◌≡◌, ◌+◌, ◌*◌, ◌/◌, ◌%◌, ◌<◌, ◌≤◌, ◌^◌};
+
+// The bits of a byte begun, and those of a number behind them.
+#[inline]
+pub fn held_with(part: u32, width: u32, value: u64) -> u64
+    requires part { part < 256 }
+    requires width { width ≤ 40 }
+    requires value { value < 2 ^ width }
+    ensures { result ≡ part * 2 ^ width + value }
+{
+    (u64::from(part) << width) + value
+}
+
+// All bits but the low ones, which fill a byte.
+#[inline]
+pub fn high_byte(held: u64, left: u32) -> u8
+    requires left { left ≤ 40 }
+    requires fits { held / 2 ^ left < 256 }
+    ensures { result ≡ held / 2 ^ left }
+{
+    (held >> left) as u8
+}
+
+// The low bits.
+#[inline]
+pub fn low_bits(held: u64, left: u32) -> u64
+    requires left { left ≤ 40 }
+    ensures { result ≡ held % 2 ^ left }
+{
+    held & ((1 << left) - 1)
+}
