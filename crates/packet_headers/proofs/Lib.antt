@@ -1,0 +1,4 @@
+pub mod CodewordLemmas
+pub mod BlockLemmas
+pub mod HeaderLemmas
+pub mod FitsLemmas

@@ -1,0 +1,6 @@
+pub mod Codewords
+pub mod Words
+pub mod Grammar
+pub mod Written
+pub mod Reading
+pub mod WriterState
