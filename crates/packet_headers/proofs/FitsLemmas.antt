@@ -40,9 +40,9 @@ leaf_is band f place entry d can h e m =
     let row : place / band.width < band.height = (div-lt_iff_lt-mul wide).1 (below_across band.width band.height place (omega arith)) in
     let at : place / band.width * band.width + place % band.width ≡ place = div-add-mod' place band.width in
     let value : get_or (map f band.entries.items) (place / band.width * band.width + place % band.width) 0 ≡ f entry =
-        ap (λ k. get_or (map f band.entries.items) k 0) at ∙ get_or-map f band.entries.items place d 0 h ∙ ap f (sym e) in
+    ap (λ k. get_or (map f band.entries.items) k 0) at ∙ get_or-map f band.entries.items place d 0 h ∙ ap f (sym e) in
     least_leaf band.width band.height (map f band.entries.items) (place % band.width) (place / band.width) column row can.width can.height
-        (length-map band.entries.items f ∙ count) (rw value m) ∙ value
+    (length-map band.entries.items f ∙ count) (rw value m) ∙ value
 
 -- the length of an entry fits the bits that it has
 len_fits : (passes len : ℕ) → 1 ≤ passes → passes ≤ 164 → len ≤ 131072 → len < 2 ^ length_width passes (least_raise passes len)
@@ -89,9 +89,10 @@ entries_fit band first [] can plain e = tt
 entries_fit band first (entry ∷ rest) can plain e =
     let below : length first < length band.entries.items = (let l = ap length e ∙ length-append first (entry ∷ rest) in omega arith) in
     let own : entry ≡ get_or band.entries.items (length first) entry = sym (ap (λ i. get_or i (length first) entry) e ∙ get_or-append_seam first entry rest entry) in
-    let more = entries_fit band (first ++ entry ∷ []) rest can plain (e ∙ sym (append_assoc first (entry ∷ []) rest)) in
-    (entry_fits band (length first) entry entry can below own (subst IsPlain (sym own) (plain (length first) entry below)) entry.included refl,
-    subst (λ k. BlocksFit (written_trees band) band.planes k (map written_block rest)) (length_push first entry) more)
+    let more = entries_fit band (first ++ entry ∷ []) rest can plain (e ∙ sym (append_assoc first (entry ∷ []) rest)) in (
+      entry_fits band (length first) entry entry can below own (subst IsPlain (sym own) (plain (length first) entry below)) entry.included refl,
+      subst (λ k. BlocksFit (written_trees band) band.planes k (map written_block rest)) (length_push first entry) more,
+    )
 
 band_fits : (band : PacketBand) → CanWriteBand band → All IsPlain band.entries.items → BandFits (shape_of band) (written_band band)
 band_fits band can plain = record {
@@ -109,9 +110,10 @@ band_fits band can plain = record {
 bands_fit : (bands : List PacketBand) → All CanWriteBand bands → All (λ band. All IsPlain band.entries.items) bands → BandsFit (map shape_of bands) (map written_band bands)
 unfolding BandsFit
 bands_fit [] can plain = tt
-bands_fit (band ∷ bands) can plain =
-    (band_fits band (can 0 band (omega arith)) (plain 0 band (omega arith)),
-    bands_fit bands (All-tail CanWriteBand band bands can) (All-tail (λ b. All IsPlain b.entries.items) band bands plain))
+bands_fit (band ∷ bands) can plain = (
+  band_fits band (can 0 band (omega arith)) (plain 0 band (omega arith)),
+  bands_fit bands (All-tail CanWriteBand band bands can) (All-tail (λ b. All IsPlain b.entries.items) band bands plain),
+)
 
 -- where no block is included
 none_of : (entries : List Entry) → list_any (λ entry. entry.included) entries ≡ false → NoneOf (map written_block entries)

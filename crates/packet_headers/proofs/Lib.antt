@@ -1,4 +1,14 @@
+pub mod ReadBits
+pub mod ReadCodes
+pub mod ReadLengths
+pub mod ReadZeroPlanes
+pub mod ReadIncluded
+pub mod ReadBlocks
 pub mod CodewordLemmas
 pub mod BlockLemmas
 pub mod HeaderLemmas
+pub mod ReadBands
+pub mod ReadPackets
+pub mod ReadHeaders
+pub mod ReadWhole
 pub mod FitsLemmas

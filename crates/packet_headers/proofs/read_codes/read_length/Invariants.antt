@@ -1,0 +1,10 @@
+use Rattle.std.proofs.Common.{◌≡◌, ℕ, ◌+◌, true, length}
+use Rattle.std.specs.Prelude.{replicate}
+use Rattle.tag_trees.specs.BitState.{Took}
+use Rattle.packet_headers.proofs.read_codes.read_length.Given as goal
+
+abbrev pub invariant-loop-width : goal.invariant-loop-width
+invariant-loop-width l = (raise : ℕ) × Took l.initial.bits (replicate raise true) l.bits × (l.width ≡ l.initial.width + raise)
+
+abbrev pub decreases-loop-width : goal.decreases-loop-width
+decreases-loop-width l = length l.bits.ahead

@@ -1,0 +1,7 @@
+use Rattle.std.proofs.Common.{◌≡◌, min, List, Bool, length}
+use Rattle.tag_trees.specs.Bits.{value}
+use Rattle.tag_trees.specs.BitState.{Took}
+use Rattle.packet_headers.proofs.read_codes.read_number.Given as goal
+
+abbrev pub invariant-loop : goal.invariant-loop
+invariant-loop l = (word : List Bool) × (length word ≡ l.counter) × Took l.initial.bits word l.bits × (l.number ≡ min (value word) 4294967295)

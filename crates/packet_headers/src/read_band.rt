@@ -1,0 +1,39 @@
+// Reading a band's part of a packet header (ISO/IEC 15444-1, B.10.8).
+ghost use Rattle.std.specs.Prelude.{◌≡◌, ◌<◌, ◌^◌, ◌++◌, List, Bool, ◌⊎◌, length, Err};
+ghost use Rattle.tag_trees.specs.BitState.{Took};
+ghost use Rattle.tag_trees.specs.Stuffing.{fault_of};
+ghost use Rattle.packet_headers.specs.Words.{BandTrees};
+ghost use Rattle.packet_headers.specs.Grammar.{TreesFit};
+ghost use Rattle.packet_headers.specs.Reading.{refusal_of, CanReadBand};
+ghost use Rattle.packet_headers.specs.ReadSteps.{ToldBand, ToldBandFits, told_band_bits, TellsBand, FoundBand};
+
+use crate::packet::{BandShape, PacketBand};
+use crate::read_block::read_block;
+use crate::refusal::PacketRefusal;
+use arrayvec::ArrayVec;
+use tag_trees::{BitIn, Tree};
+
+// The blocks of a band, in raster order.
+pub(crate) fn read_band(shape: BandShape, bits: &mut BitIn<'_>) -> Result<PacketBand, PacketRefusal>
+    requires shape { CanReadBand shape }
+    requires few { length bits.old.ahead < 2 ^ 40 }
+    ensures same { bits.new.bytes ≡ bits.old.bytes }
+    ensures found { (result ≡ Err (refusal_of (fault_of bits.old.bytes))) ⊎ FoundBand shape bits.old bits.new result }
+    ensures reads { (trees : BandTrees) (told : ToldBand) (rest : List Bool) → TreesFit shape trees → ToldBandFits shape trees told →
+        bits.old.ahead ≡ told_band_bits trees shape.planes told ++ rest →
+        TellsBand shape told bits.new result × Took bits.old (told_band_bits trees shape.planes told) bits.new }
+{
+    let mut inclusion = Tree::unread(shape.width, shape.height);
+    let mut zero_planes = Tree::unread(shape.width, shape.height);
+    let mut entries = ArrayVec::new();
+    for place in 0..shape.width * shape.height {
+        let entry = read_block(shape, place, &mut inclusion, &mut zero_planes, bits)?;
+        entries.push(entry);
+    }
+    Ok(PacketBand {
+        width: shape.width,
+        height: shape.height,
+        planes: shape.planes,
+        entries,
+    })
+}
