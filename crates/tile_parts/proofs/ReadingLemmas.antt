@@ -1,7 +1,7 @@
 -- What stands at a marker's place, and where the segments end.
 use Rattle.std.proofs.Common.{◌≡◌, ℕ, zero, suc, ◌+◌, ◌<◌, ◌≤◌, List, Option, Some, None, Result, Ok, Err, MatchResult, inl, inr, arith, ◌∙◌, sym, ap, refl, subst}
 use Rattle.std.proofs.lemmas.Bool.Decides.{nat_tests}
-use Rattle.tile_parts.specs.Bytes.{long_at}
+use Rattle.tile_parts.specs.Bytes.{word_at, long_at}
 use Rattle.tile_parts.specs.Reading.{marker_at, Passes, Ends, IsPart, IsFault}
 use Rattle.tile_parts.specs.declared.part.Part.{Part}
 use Rattle.tile_parts.specs.declared.refusal.PartRefusal.{PartRefusal}
@@ -20,6 +20,9 @@ marker_moves bytes stop at next is = record {
 -- SOD lies in the tile-part
 pub sod_inside : (bytes : List ℕ) (stop at : ℕ) → marker_at bytes stop at ≡ Ok None → at + 2 ≤ stop
 sod_inside bytes stop at is = grind (arith, nat_tests)
+
+pub sod_there : (bytes : List ℕ) (stop at : ℕ) → marker_at bytes stop at ≡ Ok None → word_at bytes at ≡ 0xFF93
+sod_there bytes stop at is = grind (arith, nat_tests)
 
 -- one segment more
 pub passes_more : (bytes : List ℕ) (stop n from mid to : ℕ) → Passes bytes stop n from mid →

@@ -9,6 +9,9 @@ word_at bytes at = slice_index bytes at * 256 + slice_index bytes (at + 1)
 abbrev pub long_at : List ℕ → ℕ → ℕ
 long_at bytes at = word_at bytes at * 65536 + word_at bytes (at + 2)
 
--- a number of 32 bits as bytes
+-- a number of 16 bits, and one of 32 bits, as bytes
+abbrev pub word_bytes : ℕ → List ℕ
+word_bytes n = n / 256 ∷ n % 256 ∷ []
+
 abbrev pub long_bytes : ℕ → List ℕ
 long_bytes n = n / 16777216 ∷ n / 65536 % 256 ∷ n / 256 % 256 ∷ n % 256 ∷ []

@@ -2,7 +2,15 @@
 use Rattle.std.specs.Prelude.{ℕ, List, [], ◌∷◌, ◌++◌}
 use Rattle.tile_parts.specs.Bytes.{long_bytes}
 
--- FF90, Lsot 10, Isot 0, Psot, TPsot, TNsot, FF93
+-- the segment SOT of tile 0: FF90, Lsot 10, Isot 0, Psot, TPsot, TNsot
+abbrev pub sot_bytes : ℕ → ℕ → ℕ → List ℕ
+sot_bytes length index count =
+    255 ∷ 144 ∷ 0 ∷ 10 ∷ 0 ∷ 0 ∷ (long_bytes length ++ (index ∷ count ∷ []))
+
+-- the marker SOD: FF93
+abbrev pub sod_bytes : List ℕ
+sod_bytes = 255 ∷ 147 ∷ []
+
+-- SOT, and SOD behind it
 abbrev pub part_head_of : ℕ → ℕ → ℕ → List ℕ
-part_head_of length index count =
-    255 ∷ 144 ∷ 0 ∷ 10 ∷ 0 ∷ 0 ∷ (long_bytes length ++ (index ∷ count ∷ 255 ∷ 147 ∷ []))
+part_head_of length index count = sot_bytes length index count ++ sod_bytes

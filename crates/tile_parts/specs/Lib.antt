@@ -1,3 +1,4 @@
 pub mod Bytes
 pub mod Head
 pub mod Reading
+pub mod Spelling

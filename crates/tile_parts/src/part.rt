@@ -4,6 +4,7 @@ ghost use Rattle.std.specs.Prelude.{None, Some, Ok, Err, IfOk, IfErr, MatchResul
 ghost use Rattle.tile_parts.specs.Bytes.{long_at};
 ghost use Rattle.tile_parts.specs.Head.{part_head_of};
 ghost use Rattle.tile_parts.specs.Reading.{sot_fault, marker_at, Ends, IsPart, IsFault};
+ghost use Rattle.tile_parts.specs.Spelling.{Spells};
 ghost use Rattle.tile_parts.specs.declared.refusal.PartRefusal.{PartRefusal};
 ghost use Rattle.tile_parts.specs.declared.part.Part.{Part};
 
@@ -48,6 +49,9 @@ pub fn read_part(bytes: &[u8], at: u32, index: u8, count: u8) -> Result<Part, Pa
     // Bytes have one reading at most, so that each answer comes exactly where it is right.
     ensures part { (part : Part) → IsPart bytes.now at index count part → result ≡ Ok part }
     ensures fault { (fault : PartRefusal) → IsFault bytes.now at index count fault → result ≡ Err fault }
+    // It is a part exactly where the bytes spell one.
+    ensures spelled { IfOk result (Spells bytes.now at index count) }
+    ensures spells { (part : Part) → Spells bytes.now at index count part → result ≡ Ok part }
     // The writer's head is read back, whatever follows it.
     ensures read_back { (size : ℕ) → 14 ≤ size → at + size ≤ length bytes.now →
         slice_range bytes.now at (at + 14) ≡ part_head_of size index count →

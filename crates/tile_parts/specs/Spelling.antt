@@ -1,0 +1,40 @@
+-- The bytes of a whole tile-part: SOT, any number of segments COM and PLT, SOD, and the body
+-- (ISO/IEC 15444-1, A.4.2, A.4.3, A.7.3, A.9.2).
+use Rattle.std.specs.Prelude.{ℕ, ◌+◌, ◌≡◌, ◌<◌, ◌⊎◌, List, ◌++◌, length, drop}
+use Rattle.std.specs.List.{flat_map, All}
+use Rattle.tile_parts.specs.Bytes.{word_bytes}
+use Rattle.tile_parts.specs.Head.{sot_bytes, sod_bytes}
+use Rattle.tile_parts.specs.declared.part.Part.{Part}
+
+-- a segment between SOT and SOD: its marker, and what stands behind its length
+pub record Segment : Type 0 where
+  pub marker : ℕ
+  pub content : List ℕ
+
+-- it is COM or PLT, and its length, which counts itself, has 16 bits
+pub record IsSegment (s : Segment) : Type 0 where
+  pub marker : (s.marker ≡ 0xFF64) ⊎ (s.marker ≡ 0xFF58)
+  pub short : length s.content + 2 < 65536
+
+-- its bytes
+abbrev pub segment_bytes : Segment → List ℕ
+segment_bytes s = word_bytes s.marker ++ (word_bytes (length s.content + 2) ++ s.content)
+
+-- the head of a tile-part with these segments
+abbrev pub head_with : ℕ → ℕ → ℕ → List Segment → List ℕ
+head_with length index told segments =
+    sot_bytes length index told ++ (flat_map segment_bytes segments ++ sod_bytes)
+
+-- The bytes from the place `at` on begin with this tile-part, the `index`-th of `count`: its head and its
+-- body have Psot bytes together, and TNsot tells the count, or 0.
+pub record Spells (bytes : List ℕ) (at index count : ℕ) (part : Part) : Type 0 where
+  pub segments : List Segment
+  pub told : ℕ
+  pub packets : List ℕ
+  pub rest : List ℕ
+  pub each : All IsSegment segments
+  pub tells : (told ≡ count) ⊎ (told ≡ 0)
+  pub spelled : drop at bytes ≡ head_with part.length index told segments ++ (packets ++ rest)
+  pub psot_is : part.length ≡ length (head_with part.length index told segments) + length packets
+  pub body_is : part.body ≡ at + length (head_with part.length index told segments)
+  pub stop_is : part.stop ≡ at + part.length
