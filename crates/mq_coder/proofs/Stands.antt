@@ -7,6 +7,7 @@ use Rattle.mq_coder.specs.Decisions.{width, Interval, start_interval, estimate, 
 use Rattle.mq_coder.specs.Code.{Coding, start_coding, byte_out, shift, renormalise, take_lower, take_upper, learn, code_more, code_less, code_symbol}
 use Rattle.mq_coder.proofs.Consumed.{ends_ff, width_low}
 use Rattle.mq_coder.proofs.Out.{Shape.none, Out, out}
+use Rattle.mq_coder.proofs.Turns.{renormalise_turn, renormalise_done}
 use Rattle.mq_coder.proofs.Held.{Held, less_bound, narrowed, moved, out_held, fresh}
 use Rattle.mq_coder.proofs.Estimates.{estimate_bounded, lower_of, symbol_of_part}
 
@@ -68,15 +69,6 @@ shift_stands from to p x it h lt =
             contexts_are = h.contexts_are;
           }
     ]
-
-pub renormalise_turn : (n : ℕ) (x : Coding) → x.a < 2 ^ 15 → renormalise (suc n) x ≡ renormalise n (shift x)
-unfolding renormalise
-renormalise_turn n x lt = cond-true _ _ _ (lt-ltb _ _ lt)
-
-pub renormalise_done : (n : ℕ) (x : Coding) → 2 ^ 15 ≤ x.a → renormalise n x ≡ x
-unfolding renormalise
-renormalise_done zero x ge = refl
-renormalise_done (suc n) x ge = cond-false _ _ _ (le-ltb _ _ ge)
 
 -- the turns of the interval, as a loop counts them
 pub doubled_turn : (n : ℕ) (it : Interval) → it.size < 2 ^ 15 → doubled (suc n) it ≡ doubled n (twice it)

@@ -1,7 +1,7 @@
 -- The value of a string, as a sum of weighted bytes, is its digits.
 use Rattle.std.proofs.Common.{◌≡◌, ℕ, zero, suc, ◌+◌, ◌-◌, ◌*◌, ◌/◌, ◌^◌, ◌<◌, ◌≤◌, Bool, true, false, eqb, List, [], ◌∷◌, length, get_or, drop, refl, sym, ap, ◌∙◌, arith, inl, inr, drop-cons}
 use Rattle.std.proofs.lemmas.Bool.{cases_lt, cases_Bool, cond-true, cond-false, lt-ltb, le-ltb, and_right}
-use Rattle.std.proofs.lemmas.List.{get_or_past}
+use Rattle.std.proofs.lemmas.List.{drop_all, get_or_past}
 use Rattle.mq_coder.specs.Decisions.{kept, byte_at, width_after, place, total, last_counting, value, look, digits, width}
 use Rattle.mq_coder.proofs.Ends.{ones_short, ones_long}
 use Rattle.mq_coder.proofs.Consumed.{width_low}
@@ -91,12 +91,6 @@ place_next ks i = refl
 rest_inside : (ks : List ℕ) (i : ℕ) → suc i < length ks → drop (suc i) ks ≡ get_or ks (suc i) 255 ∷ drop (suc (suc i)) ks
 rest_inside ks i lt = drop-cons ks (suc i) 255 lt
 
-drop_past : (ks : List ℕ) (n : ℕ) → length ks ≤ n → drop n ks ≡ []
-drop_past [] zero le = refl
-drop_past [] (suc n) le = refl
-drop_past (b ∷ r) zero le = absurd (omega arith)
-drop_past (b ∷ r) (suc n) le = drop_past r n (omega arith)
-
 -- byte i + 1 gives the last digits
 fed_short : (ks : List ℕ) (i d k : ℕ) → Uncut false ks → d + k ≡ width_after ks i → behind ks i d ≡ total ks (suc i) / 2 ^ k
 fed_short ks i d k clean e =
@@ -107,7 +101,7 @@ fed_short ks i d k clean e =
           (look_short_by (total ks i) (eqb (get_or ks i 255) 255) (get_or ks (suc i) 255) (drop (suc (suc i)) ks) d k (uncut_at false ks i clean lt) (e ∙ w))
       | inr le ↦
           let w : width_after ks i ≡ 8 = width_past ks i le in
-          rw (drop_past ks (suc i) le, total_next ks i, w, get_or_past ks (suc i) 255 le)
+          rw (drop_all (suc i) ks le, total_next ks i, w, get_or_past ks (suc i) 255 le)
           (look_end (total ks i) _ d ∙ sym (ones_short (total ks i) d k (e ∙ w)))
     ]
 
@@ -121,7 +115,7 @@ fed_long ks i d k clean one e =
       | inr le ↦
           let w : width_after ks i ≡ 8 = width_past ks i le in
           let le' : length ks ≤ suc (suc i) = omega arith in
-          rw (drop_past ks (suc i) le, drop_past ks (suc (suc i)) le', total_next ks i, w, get_or_past ks (suc i) 255 le)
+          rw (drop_all (suc i) ks le, drop_all (suc (suc i)) ks le', total_next ks i, w, get_or_past ks (suc i) 255 le)
           (look_end (total ks i) _ d ∙ sym (ones_long (total ks i) d k (e ∙ ap (λ v. v + k) w)) ∙ sym (look_end _ _ k))
     ]
 

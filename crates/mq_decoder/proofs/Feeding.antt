@@ -1,9 +1,8 @@
 -- BYTEIN reads one byte more of the string, or of the FF behind it.
 use Rattle.std.proofs.Common.{◌≡◌, ℕ, ◌+◌, ◌-◌, ◌*◌, ◌^◌, min, ◌<◌, ◌≤◌, inl, inr, true, false, List, [], ◌∷◌, length, drop, arith, add-one}
 use Rattle.std.proofs.lemmas.Bool.{cases_lt, cases_Bool, lt-ltb, le-ltb}
-use Rattle.std.proofs.lemmas.List.{get_or_past}
+use Rattle.std.proofs.lemmas.List.{drop_all, get_or_past}
 use Rattle.std.proofs.Math.Seq.{drop-cons}
-use Rattle.std.proofs.Math.ListN.{drop_of_length-le}
 use Rattle.mq_coder.specs.Decisions.{start_interval}
 use Rattle.mq_coder.specs.Reading.{Holds}
 use Rattle.mq_coder.proofs.Holding.{holds_start}
@@ -16,9 +15,6 @@ abbrev pub Feeds : List ℕ → ℕ → ByteIn → Type 0
 Feeds bytes place r =
     Fed (is_ff bytes place) (rest_of bytes place) r.byte r.bits (is_ff bytes r.place) (rest_of bytes r.place)
 
-drop_past : (bytes : List ℕ) (n : ℕ) → length bytes ≤ n → drop n bytes ≡ []
-drop_past bytes n h = drop_of_length-le bytes h
-
 -- what follows a place
 rest_within : (bytes : List ℕ) (place : ℕ) → place + 1 < length bytes
     → rest_of bytes place ≡ byte_of bytes (place + 1) ∷ rest_of bytes (place + 1)
@@ -30,7 +26,7 @@ feeds bytes place = elim (cases_Bool (is_ff bytes place)) [
     | inl high ↦ rw (ff, lt-ltb 143 (byte_of bytes (place + 1)) high, ff)
         (elim (cases_lt (place + 1) (length bytes)) [
           | inl within ↦ rw (rest_within bytes place within) (fed_cut (byte_of bytes (place + 1)) (rest_of bytes (place + 1)) high)
-          | inr past ↦ rw (drop_past bytes (place + 1) past) (fed_past true true)
+          | inr past ↦ rw (drop_all (place + 1) bytes past) (fed_past true true)
         ])
     | inr low ↦ rw (ff, le-ltb 143 (byte_of bytes (place + 1)) low)
         (elim (cases_lt (place + 1) (length bytes)) [
@@ -41,7 +37,7 @@ feeds bytes place = elim (cases_Bool (is_ff bytes place)) [
   | inr not ↦ rw not (elim (cases_lt (place + 1) (length bytes)) [
     | inl within ↦ rw (rest_within bytes place within) (fed_8 (byte_of bytes (place + 1)) (rest_of bytes (place + 1)))
     | inr past ↦ let e = get_or_past bytes (place + 1) 255 past in
-        rw (e, drop_past bytes (place + 1) past, drop_past bytes (place + 1 + 1) (omega arith)) (fed_past false true)
+        rw (e, drop_all (place + 1) bytes past, drop_all (place + 1 + 1) bytes (omega arith)) (fed_past false true)
   ])
 ]
 

@@ -104,12 +104,7 @@ fn add_row(
         (packets_of_row geometry.now first.component first.res first.py)) }
 {
     for px in 0..across {
-        let id = PacketId {
-            component: first.component,
-            res: first.res,
-            px,
-            py: first.py,
-        };
+        let id = PacketId { px, ..first };
         let at = place_among(packets, geometry, id);
         packets.insert(at, id)?;
     }
