@@ -1,2 +1,4 @@
+pub mod MemberLemmas
 pub mod SortedLemmas
 pub mod SortingLemmas
+pub mod StrictLemmas

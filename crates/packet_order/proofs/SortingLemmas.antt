@@ -58,7 +58,7 @@ one_more before sorted f n =
     ap (insert_all before sorted) (map-range_with_len_more f 0 n n (zero-add n)) ∙
     insert_all-append before sorted (map f (range_with_len 0 n)) (f n ∷ [])
 
-range_more : (n : ℕ) → range_with_len 0 (n + 1) ≡ range_with_len 0 n ++ n ∷ []
+pub range_more : (n : ℕ) → range_with_len 0 (n + 1) ≡ range_with_len 0 n ++ n ∷ []
 range_more n =
     sym (map-id (range_with_len 0 (n + 1))) ∙ map-range_with_len_more (λ x. x) 0 n n (zero-add n) ∙
     ap (λ t. t ++ n ∷ []) (map-id (range_with_len 0 n))

@@ -1,5 +1,5 @@
 -- The packets of a tile-part in their order (ISO/IEC 15444-1, B.12.1.5, and B.6 for precincts).
-use Rattle.std.specs.Prelude.{ℕ, Bool, ◌+◌, ◌-◌, ◌*◌, ◌^◌, ◌==◌, nat_lt, not, if◌then◌else◌, List, [], map}
+use Rattle.std.specs.Prelude.{ℕ, Bool, ◌≡◌, ◌+◌, ◌-◌, ◌*◌, ◌^◌, ◌<◌, ◌≤◌, ◌==◌, nat_lt, not, if◌then◌else◌, List, [], map}
 use Rattle.std.specs.List.{flat_map, range_with_len}
 use Rattle.band_geometry.specs.Sizes.{precinct_side, precinct_count}
 use Rattle.band_geometry.specs.Parts.{part_of_res}
@@ -11,6 +11,14 @@ use Rattle.packet_order.specs.declared.packet.PacketId.{PacketId}
 -- as often as there are levels above it
 abbrev pub place_of : ℕ → ℕ → ℕ → ℕ
 place_of levels r p = p * precinct_side r * 2 ^ (levels - r)
+
+-- The packet is one of the tile-part: it holds the resolution, and the precinct begins within the frame.
+pub record IsPacketOf (g : Geometry) (part : ℕ) (p : PacketId) : Type 0 where
+  pub component : p.component < 3
+  pub res : p.res ≤ g.levels
+  pub held : part_of_res g.profile g.levels p.component p.res ≡ part
+  pub column : place_of g.levels p.res p.px < g.width
+  pub row : place_of g.levels p.res p.py < g.height
 
 -- one packet stands before another: by row, then by column, then by resolution
 abbrev pub comes_before : Geometry → PacketId → PacketId → Bool

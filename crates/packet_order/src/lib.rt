@@ -2,7 +2,9 @@
 //! (ISO/IEC 15444-1, B.12.1.5), for a tile-part that holds one component.
 //!
 //! `order` answers the list of all precincts of the tile-part, sorted by the place of their upper
-//! left corner on the reference grid, row first, and where places are equal by the resolution.
+//! left corner on the reference grid, row first, and where places are equal by the resolution. Its
+//! clauses say so twice: as a sorted list, and with no list and no sorting (each precinct that
+//! begins within the frame is there, nothing else is, and each comes before all later ones).
 //!
 //! ```
 //! let geometry = Geometry::new(Profile::TwoK, 5, 1, 1);

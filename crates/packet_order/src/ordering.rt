@@ -1,12 +1,13 @@
 // The packets of a tile-part in their order.
-ghost use Rattle.std.specs.Prelude.{false, ◌≡◌, ◌<◌, ◌≤◌, IfOk, OnOk, length};
-ghost use Rattle.std.specs.List.{insert, AllPairs};
+ghost use Rattle.std.specs.Prelude.{true, ◌≡◌, ◌<◌, ◌≤◌, IfOk, OnOk, length};
+ghost use Rattle.std.specs.List.{insert, All, AllPairs, Contains};
 ghost use Rattle.std.specs.List.Sorted.{IsPermutation};
 ghost use Rattle.cine_nums.specs.Profile.{parts_of};
 ghost use Rattle.band_geometry.specs.Sizes.{precinct_count};
-ghost use Rattle.packet_order.specs.Order.{comes_before, packets_of_row, packets_of_res, packets_of_res_in};
+ghost use Rattle.packet_order.specs.Order.{comes_before, IsPacketOf, packets_of_row, packets_of_res, packets_of_res_in};
 ghost use Rattle.packet_order.specs.Order.{packets_of_component, packets_of_part, ordered_packets};
 ghost use Rattle.packet_order.specs.Sorting.{insert_by, insert_all};
+ghost use Rattle.packet_order.specs.declared.packet.PacketId.{PacketId};
 
 use crate::packet::PacketId;
 use crate::place::{comes_first, part_with};
@@ -21,9 +22,12 @@ use std::alloc::{AllocError, Global};
 pub fn order(alloc: Global, geometry: &Geometry, part: u8) -> Result<Vec<PacketId>, AllocError>
     requires { part < parts_of geometry.now.profile }
     ensures value { IfOk result (λ packets. packets.items ≡ ordered_packets geometry.now part) }
-    // That list has each packet of the tile-part, and none of them comes before an earlier one.
     ensures members { IfOk result (λ packets. IsPermutation (packets_of_part geometry.now part) packets.items) }
-    ensures sorted { IfOk result (λ packets. AllPairs (λ a b. comes_before geometry.now b a ≡ false) packets.items) }
+    // Each precinct of the tile-part that begins within the frame has its packet there, and nothing else is there.
+    ensures each { IfOk result (λ packets. All (IsPacketOf geometry.now part) packets.items) }
+    ensures whole { IfOk result (λ packets. (p : PacketId) → IsPacketOf geometry.now part p → Contains packets.items p) }
+    // Each comes before all later ones, so that none stands there twice.
+    ensures sorted { IfOk result (λ packets. AllPairs (λ a b. comes_before geometry.now a b ≡ true) packets.items) }
 {
     let mut packets = Vec::new(alloc);
     for component in 0..3 {
