@@ -9,7 +9,7 @@ use Rattle.std.proofs.Math.Pow.{pow_mono}
 use Rattle.cine_nums.specs.Bits.{bit_len}
 use Rattle.cine_nums.proofs.BitLength.{bit_len-above, bit_len-within}
 use Rattle.tag_trees.specs.Bits.{number}
-use Rattle.tag_trees.proofs.SpillLemmas.{number-join}
+use Rattle.tag_trees.proofs.SpillLemmas.{number-join, join_below, one_fits}
 use Rattle.packet_headers.specs.Codewords.{pass_bits, length_bits, length_width, least_raise}
 
 pub passes_one : (n : ℕ) → n ≤ 1 → number 1 0 ≡ pass_bits n
@@ -147,3 +147,35 @@ length_whole passes len least raise width n w e =
     rw (raise_small passes len least raise width w, e) (
     let k : (2 * 2 ^ raise - 2) * 2 ^ width % 18446744073709551616 ≡ (2 * 2 ^ raise - 2) * 2 ^ width = omega arith in
     ap (λ m. m + len) k)
+
+-- two codewords, one behind the other
+pub joined_whole : (width value last n : ℕ) → width ≤ 16 → value < 2 ^ width → last ≤ 34 → n < 2 ^ last
+    → value * 2 ^ last % 18446744073709551616 + n ≡ value * 2 ^ last + n
+joined_whole width value last n w h l k =
+    let p : 2 ^ width ≤ 2 ^ 16 = pow_mono w in
+    let q : 2 ^ last ≤ 2 ^ 34 = pow_mono l in
+    let m : value * 2 ^ last ≤ 2 ^ 16 * 2 ^ last = mul-le-mul_right (2 ^ last) (omega arith) in
+    let s : value * 2 ^ last % 18446744073709551616 ≡ value * 2 ^ last = omega arith in
+    ap (λ r. r + n) s
+
+pub joined_small : (width value last n : ℕ) → width ≤ 16 → value < 2 ^ width → last ≤ 34 → n < 2 ^ last → value * 2 ^ last + n < 2 ^ 51
+joined_small width value last n w h l k =
+    let p : 2 ^ width ≤ 2 ^ 16 = pow_mono w in
+    let q : 2 ^ last ≤ 2 ^ 34 = pow_mono l in
+    let m : value * 2 ^ last ≤ 2 ^ 16 * 2 ^ last = mul-le-mul_right (2 ^ last) (omega arith) in
+    omega arith
+
+-- zeros and a 1 behind bits
+pub zeros_whole : (width value k n : ℕ) → value < 2 ^ width → width + (k + 1) ≤ 50 → n ≡ k
+    → value * 2 ^ (n + 1) % 18446744073709551616 + 1 ≡ value * 2 ^ (k + 1) + 1
+zeros_whole width value k n h few e =
+    let b = join_below value width 1 (k + 1) h (one_fits k) in
+    let p : 2 ^ (width + (k + 1)) ≤ 2 ^ 50 = pow_mono few in
+    let s : value * 2 ^ (k + 1) % 18446744073709551616 ≡ value * 2 ^ (k + 1) = omega arith in
+    rw e (ap (λ r. r + 1) s)
+
+pub zeros_small : (width value k : ℕ) → value < 2 ^ width → width + (k + 1) ≤ 50 → value * 2 ^ (k + 1) + 1 < 2 ^ 50
+zeros_small width value k h few =
+    let b = join_below value width 1 (k + 1) h (one_fits k) in
+    let p : 2 ^ (width + (k + 1)) ≤ 2 ^ 50 = pow_mono few in
+    omega arith

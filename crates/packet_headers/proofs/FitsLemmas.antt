@@ -1,48 +1,33 @@
 -- The writer's words of a packet spell it.
-use Rattle.std.proofs.Common.{◌≡◌, ℕ, suc, zero, ◌+◌, ◌-◌, ◌*◌, ◌/◌, ◌%◌, ◌^◌, ◌<◌, ◌≤◌, Bool, true, false, List, [], ◌∷◌, ◌++◌, length, map, take, get_or, refl, sym, ap, subst, ◌∙◌, arith, append_assoc}
-use Rattle.std.specs.Prelude.{◌||◌, if◌then◌else◌, All}
+use Rattle.std.proofs.Common.{◌≡◌, ℕ, ◌+◌, ◌-◌, ◌*◌, ◌/◌, ◌%◌, ◌^◌, ◌<◌, ◌≤◌, Bool, true, false, List, [], ◌∷◌, ◌++◌, length, map, get_or, refl, sym, ap, subst, ◌∙◌, arith, append_assoc}
+use Rattle.std.specs.Prelude.{◌||◌, All}
 use Rattle.std.specs.List.{list_any}
-use Rattle.std.proofs.lemmas.List.{get_or-map, length-map, length_push}
+use Rattle.std.proofs.lemmas.List.{length-map, length_push}
 use Rattle.std.proofs.Common.{length-append}
 use Rattle.std.proofs.Math.Seq.{take-append_seam, get_or-append_seam}
 use Rattle.std.proofs.lemmas.List.Elements.{All-tail}
-use Rattle.std.proofs.Math.Nat.{mod-lt, div-lt_iff_lt-mul, mul_comm}
-use Rattle.std.proofs.lemmas.Nat.{div-add-mod'}
 use Rattle.cine_nums.specs.Bits.{bit_len}
-use Rattle.tag_trees.specs.TagTree.{leaf_node, least}
+use Rattle.tag_trees.specs.TagTree.{least}
 use Rattle.tag_trees.proofs.LeastLemmas.{least_rises}
-use Rattle.tag_trees.proofs.ReaderLemmas.{least_leaf}
 use Rattle.packet_headers.specs.declared.entry.Entry.{Entry}
 use Rattle.packet_headers.specs.declared.packet.PacketBand.{PacketBand}
 use Rattle.packet_headers.specs.declared.packet.Packet.{Packet}
-use Rattle.packet_headers.specs.Codewords.{length_width, least_raise, log2}
-use Rattle.packet_headers.specs.Words.{BlockWords, BandTrees, BandWords, leaf_at, packet_of, band_of}
-use Rattle.packet_headers.specs.Grammar.{FitsAs, IsIncluded, IsLeftOut, BlocksFit, BandFits, BandsFit, NoneOf, NoneOfBands, WordsFit}
-use Rattle.packet_headers.specs.Written.{inclusion_value, zero_plane_value, written_block, written_trees, written_band, written, band_has_any, has_any, shape_of, shapes_of, CanWriteIncluded, CanWriteEntry, CanWriteBand, CanWrite, HasZeros, IsPlain, ArePlain, written_bits}
+use Rattle.packet_headers.specs.Codewords.{length_width, least_raise}
+use Rattle.packet_headers.specs.Words.{leaf_at, packet_of, band_of}
+use Rattle.packet_headers.specs.Grammar.{FitsAs, BlocksFit, BandFits, BandsFit, NoneOf, NoneOfBands, WordsFit}
+use Rattle.packet_headers.specs.Written.{inclusion_value, zero_plane_value, written_block, written_trees, written_band, written, band_has_any, shape_of, shapes_of, CanWriteIncluded, CanWriteEntry, CanWriteBand, CanWrite, IsPlain, ArePlain, written_bits}
 use Rattle.packet_headers.specs.Reading.{HasHeader}
 use Rattle.tag_trees.specs.Stuffing.{Stuffs}
-use Rattle.packet_headers.proofs.CodewordLemmas.{LengthWidths, length_widths}
-
-some_width : (w h p : ℕ) → p < w * h → 0 < w
-some_width zero h p l = absurd (omega arith)
-some_width (suc w) h p l = omega arith
-
-below_across : (w h p : ℕ) → p < w * h → p < h * w
-below_across w h p l = let c = mul_comm w h in omega arith
+use Rattle.packet_headers.proofs.BandLemmas.{inside}
+use Rattle.packet_headers.proofs.EntryLemmas.{leaf_value}
+use Rattle.packet_headers.proofs.CodewordLemmas.{length_widths}
 
 -- the number of a leaf is its entry's
 leaf_is : (band : PacketBand) (f : Entry → ℕ) (place : ℕ) (entry d : Entry) → CanWriteBand band → place < length band.entries.items → entry ≡ get_or band.entries.items place d
     → f entry ≤ 255 → least band.width (map f band.entries.items) (leaf_at band.width place) ≡ f entry
 leaf_is band f place entry d can h e m =
     let count : length band.entries.items ≡ band.width * band.height = can.count in
-    let wide : 0 < band.width = some_width band.width band.height place (omega arith) in
-    let column : place % band.width < band.width = mod-lt place wide in
-    let row : place / band.width < band.height = (div-lt_iff_lt-mul wide).1 (below_across band.width band.height place (omega arith)) in
-    let at : place / band.width * band.width + place % band.width ≡ place = div-add-mod' place band.width in
-    let value : get_or (map f band.entries.items) (place / band.width * band.width + place % band.width) 0 ≡ f entry =
-    ap (λ k. get_or (map f band.entries.items) k 0) at ∙ get_or-map f band.entries.items place d 0 h ∙ ap f (sym e) in
-    least_leaf band.width band.height (map f band.entries.items) (place % band.width) (place / band.width) column row can.width can.height
-    (length-map band.entries.items f ∙ count) (rw value m) ∙ value
+    leaf_value band f place (place % band.width) (place / band.width) entry d can h e (inside band.width band.height place (place % band.width) (place / band.width) (omega arith) refl refl) m
 
 -- the length of an entry fits the bits that it has
 len_fits : (passes len : ℕ) → 1 ≤ passes → passes ≤ 164 → len ≤ 131072 → len < 2 ^ length_width passes (least_raise passes len)

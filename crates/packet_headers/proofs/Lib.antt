@@ -6,6 +6,11 @@ pub mod ReadIncluded
 pub mod ReadBlocks
 pub mod CodewordLemmas
 pub mod BlockLemmas
+pub mod NodePaths
+pub mod MarkLemmas
+pub mod AboveLemmas
+pub mod BandLemmas
+pub mod EntryLemmas
 pub mod HeaderLemmas
 pub mod ReadBands
 pub mod ReadPackets

@@ -1,14 +1,13 @@
 -- A band's part of a header, read.
-use Rattle.std.proofs.Common.{◌≡◌, ℕ, suc, zero, ◌+◌, ◌-◌, ◌*◌, ◌<◌, ◌≤◌, ◌^◌, min, Bool, true, false, List, [], ◌∷◌, ◌++◌, length, map, refl, sym, ap, subst, ◌∙◌, inl, inr, arith, append_assoc, length-append, Ok, Err, Result}
+use Rattle.std.proofs.Common.{◌≡◌, ℕ, suc, ◌+◌, ◌*◌, ◌<◌, ◌≤◌, Bool, List, [], ◌∷◌, ◌++◌, length, refl, sym, ap, subst, ◌∙◌, inl, inr, arith, append_assoc, length-append, Ok, Err, Result}
 use Rattle.std.specs.Prelude.{◌⊎◌, if◌then◌else◌}
 use Rattle.std.proofs.lemmas.Bool.{cases_lt}
 use Rattle.std.proofs.lemmas.List.{append-nil, map-append, length-map}
-use Rattle.tag_trees.specs.TagTree.{Writing, IsNumbering}
+use Rattle.tag_trees.specs.TagTree.{Writing}
 use Rattle.tag_trees.specs.BitState.{BitSource, Took}
 use Rattle.tag_trees.specs.Stuffing.{fault_of}
 use Rattle.tag_trees.specs.TreeState.{width_of, height_of, Stands, Allows}
 use Rattle.tag_trees.specs.declared.tree.Tree.{Tree}
-use Rattle.tag_trees.specs.declared.fault.BitFault.{BitFault}
 use Rattle.tag_trees.proofs.TreePaths.{numbering_along}
 use Rattle.tag_trees.proofs.ReaderLemmas.{numbering_exists}
 use Rattle.packet_headers.specs.declared.entry.Entry.{Entry}
@@ -24,7 +23,7 @@ use Rattle.packet_headers.specs.ReadSteps.ToldBand.{whole, stopped}
 use Rattle.packet_headers.proofs.ReadBits.{took_none, took_more, took_rest}
 use Rattle.packet_headers.proofs.ReadCodes.{along}
 use Rattle.packet_headers.proofs.ReadIncluded.{took_less}
-use Rattle.packet_headers.proofs.ReadBlocks.{inclusion_writings_push}
+use Rattle.packet_headers.proofs.BlockLemmas.{inclusion_writings-push}
 
 -- blocks one after the other
 pub blocks_bits-append : (trees : BandTrees) (before xs ys : List BlockWords) → blocks_bits trees before (xs ++ ys) ≡ blocks_bits trees before xs ++ blocks_bits trees (before ++ xs) ys
@@ -301,7 +300,7 @@ module _ (shape : BandShape) (inclusion zero_planes : Tree) (from mid : BitSourc
           inclusion_stands =
               (let P : List Writing → Type 0 = λ k. Stands inclusion' k in
               let l : 0 + length sofar.blocks ≡ length sofar.blocks = omega arith in
-              let e = inclusion_writings_push shape.width 0 sofar.blocks words in
+              let e = inclusion_writings-push shape.width 0 sofar.blocks words in
               subst P (sym (e ∙ ap (λ n. inclusion_writings shape.width 0 sofar.blocks ++ leaf_writing shape.width n 1 ∷ []) l)) next.stands);
           zero_planes_stand = next.stand;
           read = λ trees fits a b.

@@ -1,9 +1,9 @@
 -- A block's part of a header, read: its inclusion, and what stands behind it.
-use Rattle.std.proofs.Common.{◌≡◌, ℕ, suc, zero, ◌+◌, ◌-◌, ◌*◌, ◌/◌, ◌%◌, ◌<◌, ◌≤◌, min, Bool, true, false, List, [], ◌∷◌, ◌++◌, length, refl, sym, ap, subst, ◌∙◌, inl, inr, arith, append_assoc, length-append, Ok, Err, Result}
+use Rattle.std.proofs.Common.{◌≡◌, ℕ, ◌+◌, ◌/◌, ◌%◌, ◌<◌, ◌≤◌, min, Bool, true, false, List, [], ◌∷◌, ◌++◌, length, refl, sym, ap, subst, ◌∙◌, inl, inr, arith, append_assoc, Ok, Err, Result}
 use Rattle.std.specs.Prelude.{◌⊎◌, if◌then◌else◌, nat_lt}
 use Rattle.std.proofs.lemmas.Bool.{cases_Bool, ltb-true, ltb-false}
 use Rattle.std.proofs.lemmas.List.{append-nil}
-use Rattle.tag_trees.specs.TagTree.{Writing, leaf_node, levels_above, bits_of_writing, IsNumbering}
+use Rattle.tag_trees.specs.TagTree.{Writing, leaf_node, bits_of_writing, IsNumbering}
 use Rattle.tag_trees.specs.BitState.{BitSource, Took}
 use Rattle.tag_trees.specs.TreeState.{width_of, height_of, levels_of, Stands, Allows}
 use Rattle.tag_trees.specs.declared.tree.Tree.{Tree}
@@ -13,31 +13,23 @@ use Rattle.tag_trees.proofs.ReaderLemmas.{numbering_exists}
 use Rattle.packet_headers.specs.declared.entry.Entry.{Entry}
 use Rattle.packet_headers.specs.declared.packet.BandShape.{BandShape}
 use Rattle.packet_headers.specs.declared.refusal.PacketRefusal.{PacketRefusal}
-use Rattle.packet_headers.specs.Words.{BlockWords, BandTrees, leaf_at, leaf_writing, inclusion_writings, zero_plane_writings, inclusion_bits, included_bits}
-use Rattle.packet_headers.specs.Grammar.{FitsAs, IsIncluded, IsLeftOut, TreesFit}
+use Rattle.packet_headers.specs.Words.{BlockWords, BandTrees, leaf_at, leaf_writing, inclusion_writings, zero_plane_writings, inclusion_bits}
+use Rattle.packet_headers.specs.Grammar.{FitsAs, IsLeftOut, TreesFit}
 use Rattle.packet_headers.specs.Reading.{refusal_of}
-use Rattle.packet_headers.specs.ReadSteps.{no_entry, kept_entry, Told, ToldFits, IsInside, inside_bits, told_bits, Tells, ZeroPlanesStand, OfSides, FoundInside, FoundBlock}
+use Rattle.packet_headers.specs.ReadSteps.{no_entry, kept_entry, Told, ToldFits, IsInside, inside_bits, told_bits, Tells, OfSides, FoundInside, FoundBlock}
 use Rattle.packet_headers.specs.ReadSteps.Told.{block, all_zero, too_many}
-use Rattle.packet_headers.proofs.ReadBits.{took_none, took_more, took_rest}
+use Rattle.packet_headers.proofs.ReadBits.{took_more, took_rest}
+use Rattle.packet_headers.proofs.BlockLemmas.{zero_plane_writings-push}
 use Rattle.packet_headers.proofs.ReadCodes.{along}
 use Rattle.packet_headers.proofs.ReadIncluded.{included_fits, took_less}
-
--- one block more
-pub inclusion_writings_push : (width place : ℕ) (blocks : List BlockWords) (words : BlockWords)
-    → inclusion_writings width place (blocks ++ words ∷ []) ≡ inclusion_writings width place blocks ++ leaf_writing width (place + length blocks) 1 ∷ []
-unfolding inclusion_writings
-inclusion_writings_push width place [] words = let p : place + 0 ≡ place = omega arith in ap (λ n. leaf_writing width n 1 ∷ []) (sym p)
-inclusion_writings_push width place (b ∷ blocks) words =
-    let p : place + 1 + length blocks ≡ place + suc (length blocks) = omega arith in
-    ap (λ k. leaf_writing width place 1 ∷ k) (inclusion_writings_push width (place + 1) blocks words ∙ ap (λ n. inclusion_writings width (place + 1) blocks ++ leaf_writing width n 1 ∷ []) p)
 
 -- a block that is left out adds no zero planes
 pub zero_writings_same : (width place : ℕ) (blocks : List BlockWords) (words : BlockWords) → words.entry.included ≡ false
     → zero_plane_writings width place (blocks ++ words ∷ []) ≡ zero_plane_writings width place blocks
-unfolding zero_plane_writings
-zero_writings_same width place [] words e = rw e refl
-zero_writings_same width place (b ∷ blocks) words e =
-    ap (λ k. (if b.entry.included then leaf_writing width place (b.entry.zero_planes + 1) ∷ [] else []) ++ k) (zero_writings_same width (place + 1) blocks words e)
+zero_writings_same width place blocks words e =
+    zero_plane_writings-push width place blocks words
+    ∙ ap (λ k. zero_plane_writings width place blocks ++ (if k then leaf_writing width (place + length blocks) (words.entry.zero_planes + 1) ∷ [] else [])) e
+    ∙ append-nil (zero_plane_writings width place blocks)
 
 -- the bits of an ending, whose block is included
 told_inside : (trees : BandTrees) (before : List BlockWords) (planes : ℕ) (told : Told) → IsInside told

@@ -1,14 +1,13 @@
 -- The codewords of pass counts: which one a list of bits begins with.
-use Rattle.std.proofs.Common.{◌≡◌, ℕ, suc, zero, ◌+◌, ◌-◌, ◌*◌, ◌<◌, ◌≤◌, ◌^◌, min, Bool, true, false, List, [], ◌∷◌, ◌++◌, length, refl, sym, ap, subst, ◌∙◌, inl, inr, arith, append_assoc, length-append}
-use Rattle.std.specs.Prelude.{◌⊎◌, nat_le, if◌then◌else◌}
+use Rattle.std.proofs.Common.{◌≡◌, ℕ, ◌+◌, ◌-◌, ◌<◌, ◌≤◌, ◌^◌, min, Bool, true, false, List, [], ◌∷◌, ◌++◌, length, refl, sym, ap, subst, ◌∙◌, inl, inr, arith, length-append}
+use Rattle.std.specs.Prelude.{◌⊎◌}
 use Rattle.std.proofs.lemmas.Bool.{cases_lt, le-leb, lt-leb}
-use Rattle.std.proofs.lemmas.List.{append-nil, append_cancel_left}
 use Rattle.tag_trees.specs.Bits.{number, value, value_from}
 use Rattle.tag_trees.specs.BitState.{BitSource, Took}
 use Rattle.packet_headers.specs.Codewords.{pass_bits}
 use Rattle.std.proofs.Math.Nat.{pow-le-pow_right}
 use Rattle.tag_trees.proofs.BitLemmas.{number-length}
-use Rattle.packet_headers.proofs.ReadBits.{took_none, took_more, took_rest, number_front, number_word, same_front, value-below}
+use Rattle.packet_headers.proofs.ReadBits.{took_more, number_front, number_word, same_front, value-below}
 
 pub passes_one : pass_bits 1 ≡ false ∷ []
 unfolding pass_bits

@@ -1,10 +1,10 @@
 -- A header's bits, read: the first bit, and the bands behind it.
-use Rattle.std.proofs.Common.{◌≡◌, ℕ, suc, zero, ◌+◌, ◌-◌, ◌*◌, ◌<◌, ◌≤◌, Bool, true, false, List, [], ◌∷◌, ◌++◌, length, map, take, replicate, refl, sym, ap, subst, ◌∙◌, inl, inr, arith, append_assoc, Ok, Err, Result}
+use Rattle.std.proofs.Common.{◌≡◌, ℕ, suc, zero, ◌+◌, ◌*◌, ◌≤◌, Bool, true, false, List, [], ◌∷◌, ◌++◌, length, map, take, replicate, refl, sym, ap, ◌∙◌, inl, inr, arith, append_assoc, Ok, Err, Result}
 use Rattle.std.specs.Prelude.{◌⊎◌, if◌then◌else◌}
 use Rattle.std.proofs.lemmas.Bool.{cases_Bool}
-use Rattle.std.proofs.lemmas.List.{append-nil, length-replicate}
+use Rattle.std.proofs.lemmas.List.{length-replicate}
 use Rattle.std.proofs.Math.Seq.{take-length}
-use Rattle.tag_trees.specs.TagTree.{Ascends, IsNumbering, levels_above, path_of}
+use Rattle.tag_trees.specs.TagTree.{Ascends, levels_above, path_of}
 use Rattle.tag_trees.specs.BitState.{BitSource, Took}
 use Rattle.tag_trees.specs.declared.fault.BitFault.{BitFault}
 use Rattle.packet_headers.specs.declared.entry.Entry.{Entry}
@@ -15,13 +15,13 @@ use Rattle.packet_headers.specs.declared.refusal.PacketRefusal.{PacketRefusal}
 use Rattle.packet_headers.specs.declared.refusal.PacketRefusal.TheVariants.{ZeroPlanesTooMany, PassesTooMany}
 use Rattle.packet_headers.specs.Codewords.{pass_bits}
 use Rattle.packet_headers.specs.Words.{BlockWords, BandTrees, BandWords, PacketWords, leaf_at, inclusion_bits, zero_plane_bits, blocks_bits, bands_bits, header_words, band_of, packet_of}
-use Rattle.packet_headers.specs.Grammar.{most_passes, BlocksFit, TreesFit, BandFits, BandsFit, NoneOf, NoneOfBands, WordsFit, Stop, stop_bits, stop_zero_planes, StopFits, ZeroStop, PassStop}
+use Rattle.packet_headers.specs.Grammar.{BlocksFit, BandFits, BandsFit, NoneOf, NoneOfBands, WordsFit, Stop, stop_bits, stop_zero_planes, ZeroStop, PassStop}
 use Rattle.packet_headers.specs.Reading.{refusal_of}
-use Rattle.packet_headers.specs.ReadSteps.{last_place, no_entry, kept_entry, kept_entries, kept_words, kept_packet, empty_band, empty_words, Told, ToldFits, told_bits, IsStop, ToldBands, ToldBandsFit, told_bands_bits, TellsBands, FoundBands, FoundHeader}
+use Rattle.packet_headers.specs.ReadSteps.{last_place, no_entry, kept_entries, kept_words, kept_packet, empty_band, empty_words, ToldBands, ToldBandsFit, told_bands_bits, TellsBands, FoundBands, FoundHeader}
 use Rattle.packet_headers.specs.ReadSteps.Told.{block, all_zero, too_many}
 use Rattle.packet_headers.specs.ReadSteps.ToldBands.{wholes, halted}
 use Rattle.packet_headers.specs.ReadSteps.FoundHeader.{packet, zero_stop, pass_stop}
-use Rattle.packet_headers.proofs.ReadBits.{took_none, took_more, took_rest}
+use Rattle.packet_headers.proofs.ReadBits.{took_more, took_rest}
 use Rattle.packet_headers.proofs.ReadCodes.{along}
 use Rattle.packet_headers.proofs.ReadBlocks.{out_entry, out_fits}
 

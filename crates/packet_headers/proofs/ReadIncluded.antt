@@ -1,10 +1,9 @@
 -- An included block's part of a header, read.
-use Rattle.std.proofs.Common.{◌≡◌, ℕ, suc, zero, ◌+◌, ◌-◌, ◌*◌, ◌/◌, ◌%◌, ◌<◌, ◌≤◌, ◌^◌, min, Bool, true, false, List, [], ◌∷◌, ◌++◌, length, refl, sym, ap, subst, ◌∙◌, inl, inr, arith, append_assoc, length-append, Ok, Err, Result}
-use Rattle.std.specs.Prelude.{◌⊎◌, if◌then◌else◌, MatchResult, IfOk, IsOkAnd, IsErrAnd}
-use Rattle.std.proofs.lemmas.List.{append-nil, append_cancel_left}
-use Rattle.tag_trees.specs.TagTree.{Writing, leaf_node, levels_above, bits_of_writing, IsNumbering}
+use Rattle.std.proofs.Common.{◌≡◌, ℕ, ◌+◌, ◌-◌, ◌*◌, ◌/◌, ◌%◌, ◌<◌, ◌≤◌, ◌^◌, min, Bool, true, false, List, [], ◌∷◌, ◌++◌, length, refl, sym, ap, subst, ◌∙◌, inl, inr, arith, append_assoc, length-append, Ok, Err, Result}
+use Rattle.std.specs.Prelude.{◌⊎◌, if◌then◌else◌}
+use Rattle.std.proofs.lemmas.List.{append-nil}
+use Rattle.tag_trees.specs.TagTree.{Writing, leaf_node, bits_of_writing, IsNumbering}
 use Rattle.tag_trees.specs.BitState.{BitSource, Took}
-use Rattle.tag_trees.specs.Stuffing.{fault_of}
 use Rattle.tag_trees.specs.TreeState.{width_of, height_of, levels_of, Stands, Allows}
 use Rattle.tag_trees.specs.declared.tree.Tree.{Tree}
 use Rattle.tag_trees.specs.declared.fault.BitFault.{BitFault}
@@ -15,15 +14,15 @@ use Rattle.packet_headers.specs.declared.packet.BandShape.{BandShape}
 use Rattle.packet_headers.specs.declared.refusal.PacketRefusal.{PacketRefusal}
 use Rattle.packet_headers.specs.declared.refusal.PacketRefusal.TheVariants.{ZeroPlanesTooMany, PassesTooMany}
 use Rattle.packet_headers.specs.Codewords.{pass_bits, length_bits, length_width}
-use Rattle.packet_headers.specs.Words.{BlockWords, BandTrees, leaf_at, leaf_writing, zero_plane_writings, zero_plane_bits, included_bits}
+use Rattle.packet_headers.specs.Words.{BlockWords, BandTrees, leaf_at, leaf_writing, zero_plane_writings, zero_plane_bits}
 use Rattle.packet_headers.specs.Grammar.{most_passes, FitsAs, IsIncluded, TreesFit}
 use Rattle.packet_headers.specs.Reading.{refusal_of}
-use Rattle.packet_headers.specs.ReadSteps.{last_place, FoundZeroPlanes, kept_entry, Told, zero_planes_at, ToldFits, IsInside, inside_bits, Tells, ZeroPlanesStand, OfSides, FoundInside}
+use Rattle.packet_headers.specs.ReadSteps.{last_place, FoundZeroPlanes, kept_entry, Told, zero_planes_at, ToldFits, IsInside, inside_bits, Tells, OfSides, FoundInside}
 use Rattle.packet_headers.specs.ReadSteps.Told.{block, all_zero, too_many}
-use Rattle.packet_headers.proofs.ReadBits.{took_none, took_more, took_rest}
+use Rattle.packet_headers.proofs.ReadBits.{took_more, took_rest}
+use Rattle.packet_headers.proofs.BlockLemmas.{zero_plane_writings-push}
 use Rattle.packet_headers.proofs.ReadCodes.{along}
 use Rattle.packet_headers.proofs.ReadLengths.{length_same}
-use Rattle.packet_headers.proofs.ReadZeroPlanes.{fault_not_zero}
 
 abbrev kept_of : ℕ → ℕ → ℕ → Entry
 kept_of z passes kept = record { included = true; zero_planes = z; passes = passes; len = kept }
@@ -53,15 +52,9 @@ zero_less old mid from one x y planes z earlier fault w h (inr f) =
 -- one block more
 pub zero_writings_push : (width place : ℕ) (blocks : List BlockWords) (words : BlockWords) → words.entry.included ≡ true
     → zero_plane_writings width place (blocks ++ words ∷ []) ≡ zero_plane_writings width place blocks ++ leaf_writing width (place + length blocks) (words.entry.zero_planes + 1) ∷ []
-unfolding zero_plane_writings
-zero_writings_push width place [] words e =
-    let p : place + 0 ≡ place = omega arith in
-    rw e (ap (λ n. leaf_writing width n (words.entry.zero_planes + 1) ∷ []) (sym p))
-zero_writings_push width place (b ∷ blocks) words e =
-    let p : place + 1 + length blocks ≡ place + suc (length blocks) = omega arith in
-    ap (λ k. (if b.entry.included then leaf_writing width place (b.entry.zero_planes + 1) ∷ [] else []) ++ k)
-    (zero_writings_push width (place + 1) blocks words e ∙ ap (λ n. zero_plane_writings width (place + 1) blocks ++ leaf_writing width n (words.entry.zero_planes + 1) ∷ []) p)
-    ∙ sym (append_assoc (if b.entry.included then leaf_writing width place (b.entry.zero_planes + 1) ∷ [] else []) (zero_plane_writings width (place + 1) blocks) (leaf_writing width (place + suc (length blocks)) (words.entry.zero_planes + 1) ∷ []))
+zero_writings_push width place blocks words e =
+    zero_plane_writings-push width place blocks words
+    ∙ ap (λ k. zero_plane_writings width place blocks ++ (if k then leaf_writing width (place + length blocks) (words.entry.zero_planes + 1) ∷ [] else [])) e
 
 module _ (shape : BandShape) (old : Tree) (sides : OfSides old shape) (before : List BlockWords) (place : ℕ) (at : length before ≡ place) where
   -- the bits and the leaf, as the tree has them

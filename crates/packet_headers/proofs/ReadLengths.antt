@@ -1,15 +1,15 @@
 -- The raises of Lblock and the length behind them.
-use Rattle.std.proofs.Common.{◌≡◌, ℕ, suc, zero, ◌+◌, ◌-◌, ◌*◌, ◌<◌, ◌≤◌, ◌^◌, min, Bool, true, false, List, [], ◌∷◌, ◌++◌, length, refl, sym, ap, subst, ◌∙◌, inl, inr, arith, append_assoc, length-append}
+use Rattle.std.proofs.Common.{◌≡◌, ℕ, suc, zero, ◌+◌, ◌<◌, ◌≤◌, ◌^◌, min, Bool, true, false, List, [], ◌∷◌, ◌++◌, length, refl, sym, ap, ◌∙◌, arith, append_assoc, length-append}
 use Rattle.std.specs.Prelude.{replicate, Result, Ok, Err, IfOk, IfErr, IsOkAnd}
 use Rattle.tag_trees.specs.declared.fault.BitFault.{BitFault}
-use Rattle.std.proofs.lemmas.List.{append-nil, append_cancel_left, length-replicate}
+use Rattle.std.proofs.lemmas.List.{append-nil}
 use Rattle.cine_nums.specs.Bits.{bit_len}
 use Rattle.cine_nums.proofs.BitLength.{bit_len-above}
 use Rattle.tag_trees.specs.Bits.{number, value}
 use Rattle.tag_trees.specs.BitState.{BitSource, Took}
 use Rattle.tag_trees.proofs.BitLemmas.{number-length}
 use Rattle.packet_headers.specs.Codewords.{length_bits, length_width}
-use Rattle.packet_headers.proofs.ReadBits.{took_more, took_rest, one_took, number_front, number_word, same_front, value-below}
+use Rattle.packet_headers.proofs.ReadBits.{took_more, number_front, number_word, same_front, value-below}
 use Rattle.packet_headers.proofs.ReadCodes.{along, Word}
 
 -- ones up to a zero, in one way

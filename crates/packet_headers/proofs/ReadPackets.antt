@@ -1,19 +1,18 @@
 -- The bands of a packet, read.
-use Rattle.std.proofs.Common.{◌≡◌, ℕ, suc, zero, ◌+◌, ◌-◌, ◌*◌, ◌<◌, ◌≤◌, ◌^◌, min, Bool, true, false, List, [], ◌∷◌, ◌++◌, length, map, get_or, refl, sym, ap, subst, ◌∙◌, inl, inr, arith, append_assoc, length-append, Ok, Err, Result}
+use Rattle.std.proofs.Common.{◌≡◌, ℕ, suc, zero, ◌+◌, ◌*◌, ◌<◌, ◌≤◌, Bool, List, [], ◌∷◌, ◌++◌, length, map, get_or, refl, sym, ap, subst, ◌∙◌, inl, inr, arith, append_assoc, length-append, Ok, Err, Result}
 use Rattle.std.specs.Prelude.{◌⊎◌}
 use Rattle.std.proofs.lemmas.Bool.{cases_lt}
-use Rattle.std.proofs.lemmas.List.{append-nil, map-append, length-map}
+use Rattle.std.proofs.lemmas.List.{append-nil, map-append}
 use Rattle.tag_trees.specs.BitState.{BitSource, Took}
 use Rattle.tag_trees.specs.Stuffing.{fault_of}
-use Rattle.tag_trees.specs.declared.fault.BitFault.{BitFault}
 use Rattle.packet_headers.specs.declared.packet.BandShape.{BandShape}
 use Rattle.packet_headers.specs.declared.packet.PacketBand.{PacketBand}
 use Rattle.packet_headers.specs.declared.packet.Packet.{Packet}
 use Rattle.packet_headers.specs.declared.refusal.PacketRefusal.{PacketRefusal}
-use Rattle.packet_headers.specs.Words.{BlockWords, BandTrees, BandWords, leaf_at, blocks_bits, bands_bits}
-use Rattle.packet_headers.specs.Grammar.{BlocksFit, TreesFit, BandFits, BandsFit, Stop, StopFits}
+use Rattle.packet_headers.specs.Words.{BandTrees, BandWords, leaf_at, blocks_bits, bands_bits}
+use Rattle.packet_headers.specs.Grammar.{BlocksFit, TreesFit, BandFits, BandsFit, Stop}
 use Rattle.packet_headers.specs.Reading.{refusal_of}
-use Rattle.packet_headers.specs.ReadSteps.{kept_entries, kept_band, kept_words, Told, ToldFits, told_bits, ToldBand, IsStop, ToldBandFits, told_band_bits, stop_refusal, TellsBand, FoundBand, ToldBands, ToldBandsFit, told_bands_bits, TellsBands, FoundBands}
+use Rattle.packet_headers.specs.ReadSteps.{kept_band, kept_words, Told, ToldFits, told_bits, ToldBand, IsStop, ToldBandFits, told_band_bits, stop_refusal, TellsBand, FoundBand, ToldBands, ToldBandsFit, told_bands_bits, TellsBands, FoundBands}
 use Rattle.packet_headers.specs.ReadSteps.Told.{block, all_zero, too_many}
 use Rattle.packet_headers.specs.ReadSteps.ToldBand.{whole, stopped}
 use Rattle.packet_headers.specs.ReadSteps.ToldBands.{wholes, halted}

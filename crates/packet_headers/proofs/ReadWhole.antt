@@ -1,7 +1,7 @@
 -- A whole packet, read: its header's bits, their end in a byte, and the room for its body.
-use Rattle.std.proofs.Common.{◌≡◌, ℕ, suc, zero, ◌+◌, ◌-◌, ◌*◌, ◌<◌, ◌≤◌, ◌^◌, min, Bool, true, false, List, [], ◌∷◌, ◌++◌, length, map, take, drop, refl, sym, ap, subst, ◌∙◌, inl, inr, arith, append_assoc, length-append, Ok, Err, Result}
-use Rattle.std.specs.Prelude.{◌⊎◌, ◌==◌, if◌then◌else◌, sum_by, IfOk, IfErr}
-use Rattle.std.proofs.lemmas.List.{append-nil, take-append-drop}
+use Rattle.std.proofs.Common.{◌≡◌, ℕ, suc, zero, ◌+◌, ◌-◌, ◌*◌, ◌<◌, ◌≤◌, ◌^◌, min, Bool, true, false, List, [], ◌∷◌, ◌++◌, length, map, take, drop, refl, sym, ap, subst, ◌∙◌, inl, inr, arith, length-append, Ok, Err, Result}
+use Rattle.std.specs.Prelude.{◌⊎◌, ◌==◌, if◌then◌else◌, sum_by}
+use Rattle.std.proofs.lemmas.List.{take-append-drop}
 use Rattle.std.proofs.lemmas.List.Sums.{sum_by-cons}
 use Rattle.tag_trees.specs.Bits.{number, useful, width_behind}
 use Rattle.tag_trees.specs.BitState.{BitSource, Took}
@@ -16,7 +16,7 @@ use Rattle.packet_headers.specs.declared.packet.PacketBand.{PacketBand}
 use Rattle.packet_headers.specs.declared.packet.Packet.{Packet}
 use Rattle.packet_headers.specs.declared.packet.PacketRead.{PacketRead}
 use Rattle.packet_headers.specs.declared.refusal.PacketRefusal.{PacketRefusal}
-use Rattle.packet_headers.specs.declared.refusal.PacketRefusal.TheVariants.{HeaderTruncated, StuffedBitSet, ZeroPlanesTooMany, PassesTooMany, BodyTruncated}
+use Rattle.packet_headers.specs.declared.refusal.PacketRefusal.TheVariants.{ZeroPlanesTooMany, PassesTooMany}
 use Rattle.packet_headers.specs.Words.{BlockWords, BandWords, PacketWords, header_words, bands_bits, band_of, packet_of, blocks_len, body_of}
 use Rattle.packet_headers.specs.Grammar.{WordsFit, ZeroStop, PassStop}
 use Rattle.packet_headers.specs.Reading.{HasHeader, Found, StopsAt, EndsEarly, BodyShort, Refused, refusal_of}

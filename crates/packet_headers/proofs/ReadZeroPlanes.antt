@@ -1,11 +1,10 @@
 -- A leaf's number asked for by one threshold after the other.
-use Rattle.std.proofs.Common.{◌≡◌, ℕ, suc, zero, ◌+◌, ◌-◌, ◌<◌, ◌≤◌, min, Bool, true, false, List, [], ◌∷◌, ◌++◌, length, refl, sym, ap, subst, ◌∙◌, inl, inr, arith, append_assoc, Ok, Err, Result, ltb}
-use Rattle.std.specs.Prelude.{◌⊎◌, max, nat_lt, replicate, if◌then◌else◌, IfOk}
-use Rattle.std.proofs.lemmas.Bool.{cases_Bool, ltb-true, ltb-false, le-ltb}
+use Rattle.std.proofs.Common.{◌≡◌, ℕ, ◌+◌, ◌-◌, ◌<◌, ◌≤◌, min, Bool, true, false, List, [], ◌∷◌, ◌++◌, refl, sym, ap, subst, ◌∙◌, arith, append_assoc, Ok, Err, Result, ltb}
+use Rattle.std.specs.Prelude.{max, nat_lt, replicate, if◌then◌else◌}
+use Rattle.std.proofs.lemmas.Bool.{ltb-true, ltb-false, le-ltb}
 use Rattle.tag_trees.specs.TagTree.{Writing, leaf_node, levels_above, path_of, largest, node_bits, path_bits, bits_of_writing, IsNumbering, is_among}
 use Rattle.tag_trees.specs.BitState.{BitSource, Took}
-use Rattle.tag_trees.specs.Stuffing.{fault_of, place_of}
-use Rattle.tag_trees.specs.TreeState.{width_of, height_of, levels_of, bound_of, known_of, Stands, Allows}
+use Rattle.tag_trees.specs.TreeState.{width_of, height_of, levels_of, Stands, Allows}
 use Rattle.tag_trees.specs.declared.tree.Tree.{Tree}
 use Rattle.tag_trees.proofs.ReaderLemmas.{split_thresholds, stands_split}
 use Rattle.tag_trees.proofs.TreePaths.{largest_push, numbering_along}

@@ -1,19 +1,122 @@
--- What the two trees of a band stand for while its blocks are written.
-use Rattle.std.specs.Prelude.{◌≡◌, ℕ, ◌/◌, ◌%◌, List, length}
-use Rattle.tag_trees.specs.TreeState.{width_of, height_of, IsWritten}
-use Rattle.tag_trees.specs.declared.tree.Tree.{Tree}
+-- What the writer of a band keeps of the nodes above the leaves.
+use Rattle.std.specs.Prelude.{◌≡◌, ℕ, suc, zero, ◌+◌, ◌-◌, ◌<◌, ◌≤◌, Bool, true, false, not, ◌&&◌, ◌==◌, if◌then◌else◌, List, [], ◌∷◌, ◌++◌, get_or}
+use Rattle.tag_trees.specs.Bits.{number, bit_value}
+use Rattle.tag_trees.specs.TagTree.{levels_above, largest}
+use Rattle.packet_headers.specs.declared.entry.Entry.{Entry}
+use Rattle.packet_headers.specs.declared.above.Above.{Above}
+use Rattle.packet_headers.specs.declared.above.Marks.{Marks}
+use Rattle.packet_headers.specs.Codewords.{pass_bits, length_bits, least_raise}
 use Rattle.packet_headers.specs.Words.{BlockWords, BandTrees, inclusion_writings, zero_plane_writings}
 
--- the trees have the numberings of these words, and have written these blocks
-pub record TreesWritten (words : BandTrees) (inclusion zero_planes : Tree) (before : List BlockWords) : Type 0 where
-  pub width : width_of inclusion ≡ words.width
-  pub height : height_of inclusion ≡ words.height
-  pub zero_width : width_of zero_planes ≡ words.width
-  pub zero_height : height_of zero_planes ≡ words.height
-  pub inclusion_is : IsWritten inclusion words.inclusion (inclusion_writings words.width 0 before)
-  pub zero_planes_is : IsWritten zero_planes words.zero_planes (zero_plane_writings words.width 0 before)
+-- whether the value of a node of the inclusion tree is 0, so that a block under it is included
+abbrev pub Includes : Bool → ℕ → Type 0
+Includes true value = value ≡ 0
+Includes false value = 1 ≤ value
 
--- the block behind these stands in this column and row
-pub record AtPlace (words : BandTrees) (before : List BlockWords) (x y : ℕ) : Type 0 where
-  pub column : x ≡ length before % words.width
-  pub row : y ≡ length before / words.width
+-- whether a node has been written beyond its value
+abbrev pub IsBeyond : Bool → ℕ → ℕ → Type 0
+IsBeyond true value earlier = value < earlier
+IsBeyond false value earlier = earlier ≡ 0
+
+-- The node above the middle ones, and the middle ones, of both trees: whether a block under it is included, the
+-- least zero planes under it, and whether it has been written. Where there is no such node, nothing of it is left to write.
+abbrev pub TopIncludes : ℕ → (ℕ → ℕ) → Bool → Type 0
+TopIncludes (suc (suc _)) value includes = Includes includes (value 20)
+TopIncludes zero value includes = includes ≡ true
+TopIncludes (suc zero) value includes = includes ≡ true
+
+abbrev pub TopVisited : ℕ → (ℕ → ℕ) → Bool → Type 0
+TopVisited (suc (suc _)) earlier visited = earlier 20 ≡ bit_value visited
+TopVisited zero earlier visited = visited ≡ true
+TopVisited (suc zero) earlier visited = visited ≡ true
+
+abbrev pub TopLeast : ℕ → (ℕ → ℕ) → ℕ → Type 0
+TopLeast (suc (suc _)) value least = least ≡ value 20
+TopLeast zero value least = least ≡ 0
+TopLeast (suc zero) value least = least ≡ 0
+
+abbrev pub TopBeyond : ℕ → (ℕ → ℕ) → (ℕ → ℕ) → Bool → Type 0
+TopBeyond (suc (suc _)) value earlier beyond = IsBeyond beyond (value 20) (earlier 20)
+TopBeyond zero value earlier beyond = beyond ≡ true
+TopBeyond (suc zero) value earlier beyond = beyond ≡ true
+
+-- the same of a middle node, which is over a quarter of at most 2 by 2 leaves
+abbrev pub MiddleIncludes : ℕ → (ℕ → ℕ) → ℕ → Bool → Type 0
+MiddleIncludes zero value quarter includes = includes ≡ true
+MiddleIncludes (suc _) value quarter includes = Includes includes (value (16 + quarter))
+
+abbrev pub MiddleVisited : ℕ → (ℕ → ℕ) → ℕ → Bool → Type 0
+MiddleVisited zero earlier quarter visited = visited ≡ true
+MiddleVisited (suc _) earlier quarter visited = earlier (16 + quarter) ≡ bit_value visited
+
+abbrev pub MiddleLeast : ℕ → (ℕ → ℕ) → ℕ → ℕ → Type 0
+MiddleLeast zero value quarter least = least ≡ 0
+MiddleLeast (suc _) value quarter least = least ≡ value (16 + quarter)
+
+abbrev pub MiddleBeyond : ℕ → (ℕ → ℕ) → (ℕ → ℕ) → ℕ → Bool → Type 0
+MiddleBeyond zero value earlier quarter beyond = beyond ≡ true
+MiddleBeyond (suc _) value earlier quarter beyond = IsBeyond beyond (value (16 + quarter)) (earlier (16 + quarter))
+
+-- the inclusion bits of a block, where these nodes above it include a block, and are visited
+abbrev pub bit_if : Bool → Bool → List Bool
+bit_if put bit = if put then bit ∷ [] else []
+
+-- a node's zeros and its 1, where it isn't beyond
+abbrev pub zeros_if : Bool → ℕ → List Bool
+zeros_if put zeros = if put then number (zeros + 1) 1 else []
+
+abbrev pub inclusion_list : Bool → Bool → Bool → Bool → Bool → List Bool
+inclusion_list visited top seen middle includes = bit_if (not visited) top ++ (bit_if (not seen && top) middle ++ bit_if middle includes)
+
+abbrev pub zero_plane_list : Bool → ℕ → Bool → ℕ → ℕ → List Bool
+zero_plane_list beyond top seen middle zeros = zeros_if (not beyond) top ++ (zeros_if (not seen) (middle - top) ++ number (zeros - middle + 1) 1)
+
+-- a node that is kept for a quarter; there are four
+abbrev pub kept_of : List Above → ℕ → Above
+kept_of middle quarter = get_or middle quarter (record { included = false; zero_planes = 0 })
+
+abbrev pub mark_of : Marks → ℕ → Bool
+mark_of marks quarter = get_or marks.middle quarter false
+
+-- the bits that are put for an entry in a quarter
+abbrev pub entry_list : Marks → Marks → ℕ → Above → Above → Entry → List Bool
+entry_list visited beyond quarter top middle entry =
+    inclusion_list visited.top top.included (mark_of visited quarter) middle.included entry.included
+    ++ (if entry.included
+    then zero_plane_list beyond.top top.zero_planes (mark_of beyond quarter) middle.zero_planes entry.zero_planes
+    ++ (pass_bits entry.passes ++ length_bits entry.passes (least_raise entry.passes entry.len) entry.len)
+    else [])
+
+-- where a middle node is marked, so is the one above it
+abbrev pub TopFirst : Marks → Type 0
+TopFirst marks = (q : ℕ) → q < 4 → mark_of marks q ≡ true → marks.top ≡ true
+
+-- the nodes above a quarter have been marked
+pub record Marked (old : Marks) (quarter : ℕ) (new : Marks) : Type 0 where
+  pub top : new.top ≡ true
+  pub middle : (n : ℕ) → n < 4 → mark_of new n ≡ (if quarter == n then true else mark_of old n)
+
+abbrev pub MarkedIf : Bool → Marks → ℕ → Marks → Type 0
+MarkedIf true old quarter new = Marked old quarter new
+MarkedIf false old quarter new = new ≡ old
+
+-- the nodes above the leaves have these words' numbers
+pub record AboveStands (words : BandTrees) (top : Above) (middle : List Above) : Type 0 where
+  pub top_includes : TopIncludes (levels_above words.width words.height) words.inclusion top.included
+  pub top_least : TopLeast (levels_above words.width words.height) words.zero_planes top.zero_planes
+  pub middle_includes : (q : ℕ) → q < 4 → MiddleIncludes (levels_above words.width words.height) words.inclusion q (kept_of middle q).included
+  pub middle_least : (q : ℕ) → q < 4 → MiddleLeast (levels_above words.width words.height) words.zero_planes q (kept_of middle q).zero_planes
+
+-- the writings of the inclusion tree, and of the zero plane tree, that these blocks have had
+abbrev pub visits : BandTrees → List BlockWords → ℕ → ℕ
+visits words before = largest (levels_above words.width words.height) (inclusion_writings words.width 0 before)
+
+abbrev pub zero_visits : BandTrees → List BlockWords → ℕ → ℕ
+zero_visits words before = largest (levels_above words.width words.height) (zero_plane_writings words.width 0 before)
+
+-- the marks are those of these blocks
+pub record MarksStand (words : BandTrees) (before : List BlockWords) (visited beyond : Marks) : Type 0 where
+  pub top_visited : TopVisited (levels_above words.width words.height) (visits words before) visited.top
+  pub top_beyond : TopBeyond (levels_above words.width words.height) words.zero_planes (zero_visits words before) beyond.top
+  pub middle_visited : (q : ℕ) → q < 4 → MiddleVisited (levels_above words.width words.height) (visits words before) q (mark_of visited q)
+  pub middle_beyond : (q : ℕ) → q < 4 → MiddleBeyond (levels_above words.width words.height) words.zero_planes (zero_visits words before) q (mark_of beyond q)

@@ -1,63 +1,99 @@
 // Writing a band.
 ghost use Rattle.std.specs.Prelude.{◌≡◌, ◌+◌, ◌*◌, ◌<◌, ◌≤◌, [], ◌++◌, List, Bool, ℕ, length, map};
-ghost use Rattle.tag_trees.specs.TagTree.{least};
-ghost use Rattle.tag_trees.specs.TreeState.{width_of, height_of, IsWritten};
 ghost use Rattle.packet_headers.specs.Words.{blocks_bits};
-ghost use Rattle.packet_headers.specs.Written.{inclusion_value, zero_plane_value, written_trees, written_band, CanWriteBand};
-ghost use Rattle.packet_headers.specs.WriterState.{TreesWritten};
+ghost use Rattle.packet_headers.specs.Written.{written_trees, written_band, CanWriteBand};
+ghost use Rattle.packet_headers.specs.WriterState.{AboveStands, MarksStand, TopFirst};
 
-use crate::block::{Trees, put_block};
+use crate::above::{Above, Marks};
+use crate::block::{BandMarks, put_block};
 use crate::packet::PacketBand;
-use arrayvec::ArrayVec;
-use tag_trees::{BitSink, Tree};
+use crate::place::Place;
+use tag_trees::BitSink;
 
-// The tree whose leaves are 0 for an included block and 1 for another.
-fn inclusion_tree(band: &PacketBand) -> Tree
-    requires { CanWriteBand band.now }
-    ensures width { width_of result ≡ band.now.width }
-    ensures height { height_of result ≡ band.now.height }
-    ensures written { IsWritten result (least band.now.width (map inclusion_value band.now.entries.items)) [] }
-{
-    let mut values: ArrayVec<u8, 16> = ArrayVec::new();
-    for entry in band.entries.as_slice() {
-        values.push(if entry.included { 0 } else { 1 });
-    }
-    Tree::of(band.width, band.height, values.as_slice())
+// The nodes above the leaves of a band's tag trees: the one above the middle ones, and one for each quarter.
+#[derive(Clone, Copy)]
+struct BandAbove {
+    top: Above,
+    middle: [Above; 4],
 }
 
-// The tree whose leaves are the zero planes of an included block, and all planes for another.
-fn zero_plane_tree(band: &PacketBand) -> Tree
+// A band of one block has no nodes above it, and one of at most 2 by 2 blocks none above the quarter's.
+fn above_of(band: &PacketBand) -> BandAbove
     requires { CanWriteBand band.now }
-    ensures width { width_of result ≡ band.now.width }
-    ensures height { height_of result ≡ band.now.height }
-    ensures written { IsWritten result (least band.now.width (map (zero_plane_value band.now.planes) band.now.entries.items)) [] }
+    ensures { AboveStands (written_trees band.now) result.top result.middle }
 {
-    let mut values: ArrayVec<u8, 16> = ArrayVec::new();
+    let none = Above {
+        included: false,
+        zero_planes: u8::MAX,
+    };
+    let mut top = none;
+    let mut middle = [none; 4];
+    let mut place = Place { x: 0, y: 0 };
     for entry in band.entries.as_slice() {
-        values.push(if entry.included {
-            entry.zero_planes
-        } else {
-            band.planes
-        });
+        let quarter = place.quarter();
+        top = top.with(entry, band.planes);
+        middle[quarter] = middle[quarter].with(entry, band.planes);
+        place = place.next(band.width);
     }
-    Tree::of(band.width, band.height, values.as_slice())
+    let passed = Above {
+        included: true,
+        zero_planes: 0,
+    };
+    let side = band.width.max(band.height);
+    if side <= 1 {
+        return BandAbove {
+            top: passed,
+            middle: [passed; 4],
+        };
+    }
+    if side <= 2 {
+        return BandAbove {
+            top: passed,
+            middle,
+        };
+    }
+    BandAbove { top, middle }
+}
+
+// The marks of a band of which nothing is written.
+fn fresh_marks(band: &PacketBand) -> BandMarks
+    ensures stand { MarksStand (written_trees band.now) [] result.visited result.beyond }
+    ensures visited { TopFirst result.visited }
+    ensures beyond { TopFirst result.beyond }
+{
+    let side = band.width.max(band.height);
+    let marks = Marks {
+        top: side <= 2,
+        middle: [side <= 1; 4],
+    };
+    BandMarks {
+        visited: marks,
+        beyond: marks,
+    }
 }
 
 // Puts the bits of a band's blocks, in raster order.
 pub fn put_band<S: BitSink>(band: &PacketBand, out: &mut S)
     requires band { CanWriteBand band.now }
-    requires room { S.bit_count out.old + 2832 ≤ 7000 }
+    requires room { S.bit_count out.old + 1300 ≤ 7000 }
     ensures bits { (bits : List Bool) → S.StandsFor out.old bits →
         S.StandsFor out.new (bits ++ blocks_bits (written_trees band.now) [] (written_band band.now).blocks) }
-    ensures few { S.bit_count out.new ≤ S.bit_count out.old + 1232 }
+    ensures few { S.bit_count out.new ≤ S.bit_count out.old + 1200 }
 {
-    let mut trees = Trees {
-        inclusion: inclusion_tree(band),
-        zero_planes: zero_plane_tree(band),
-    };
-    for (place, entry) in band.entries.as_slice().iter().enumerate() {
-        let x = place as u8 % band.width;
-        let y = place as u8 / band.width;
-        put_block(&mut trees, x, y, band.planes, *entry, out);
+    let above = above_of(band);
+    let mut marks = fresh_marks(band);
+    let mut place = Place { x: 0, y: 0 };
+    for entry in band.entries.as_slice() {
+        let quarter = place.quarter();
+        put_block(
+            &mut marks,
+            quarter,
+            above.top,
+            above.middle[quarter],
+            band.planes,
+            *entry,
+            out,
+        );
+        place = place.next(band.width);
     }
 }

@@ -1,46 +1,117 @@
 // Writing a block.
-ghost use Rattle.std.specs.Prelude.{◌≡◌, ◌+◌, ◌-◌, ◌*◌, ◌/◌, ◌%◌, ◌<◌, ◌≤◌, ◌∷◌, [], ◌++◌, List, Bool, ℕ, length, IsTrue};
-ghost use Rattle.tag_trees.specs.TreeState.{width_of, height_of};
-ghost use Rattle.packet_headers.specs.Words.{BandTrees, BlockWords, block_bits};
-ghost use Rattle.packet_headers.specs.Written.{written_block, CanWriteEntry};
-ghost use Rattle.packet_headers.specs.WriterState.{TreesWritten, AtPlace};
+ghost use Rattle.std.specs.Prelude.{◌≡◌, ◌+◌, ◌-◌, ◌<◌, ◌≤◌, ◌^◌, [], ◌++◌, List, Bool, ℕ, not, ◌&&◌, IsTrue};
+ghost use Rattle.tag_trees.specs.Bits.{number};
+ghost use Rattle.packet_headers.specs.Written.{CanWriteEntry};
+ghost use Rattle.packet_headers.specs.WriterState.{inclusion_list, zero_plane_list, mark_of, entry_list, Marked, MarkedIf};
 
-use crate::codeword::{length_codeword, pass_codeword};
+use crate::above::{Above, Marks};
+use crate::codeword::{Codeword, numbers_codeword};
 use crate::entry::Entry;
-use tag_trees::{BitSink, Tree};
+use tag_trees::BitSink;
 
-// The two tag trees of a band.
+// Which nodes above the leaves have been written: in the inclusion tree up to 1, and in the zero plane tree
+// beyond their values.
 #[derive(Clone, Copy)]
-pub struct Trees {
-    pub inclusion: Tree,
-    pub zero_planes: Tree,
+pub struct BandMarks {
+    pub visited: Marks,
+    pub beyond: Marks,
+}
+
+// A block's bits in the inclusion tree.
+fn inclusion_codeword(
+    visited: &mut Marks,
+    quarter: usize,
+    top: Above,
+    middle: Above,
+    included: bool,
+) -> Codeword
+    requires quarter { quarter < 4 }
+    requires order { IsTrue (mark_of visited.old quarter) → IsTrue visited.old.top }
+    ensures bits { number result.width result.value ≡ inclusion_list visited.old.top top.included (mark_of visited.old quarter) middle.included included }
+    ensures fits { result.value < 2 ^ result.width }
+    ensures few { result.width ≤ 3 }
+    ensures marked { Marked visited.old quarter visited.new }
+{
+    if visited.middle[quarter] {
+        return Codeword::none().with_bit_if(middle.included, included);
+    }
+    let first = visited.mark_top();
+    let next = visited.mark_middle(quarter) && top.included;
+    Codeword::none()
+        .with_bit_if(first, top.included)
+        .with_bit_if(next, middle.included)
+        .with_bit_if(middle.included, included)
+}
+
+// These bits, and behind them those of an included block in the zero plane tree.
+fn zero_plane_codeword(
+    bits: Codeword,
+    beyond: &mut Marks,
+    quarter: usize,
+    top: u8,
+    middle: u8,
+    zero_planes: u8,
+) -> Codeword
+    requires quarter { quarter < 4 }
+    requires order { IsTrue (mark_of beyond.old quarter) → IsTrue beyond.old.top }
+    requires top { top ≤ middle }
+    requires middle { middle ≤ zero_planes }
+    requires few { zero_planes < 20 }
+    requires room { bits.width ≤ 3 }
+    requires fits { bits.value < 2 ^ bits.width }
+    ensures bits { number result.width result.value ≡ number bits.width bits.value ++ zero_plane_list beyond.old.top top (mark_of beyond.old quarter) middle zero_planes }
+    ensures fits { result.value < 2 ^ result.width }
+    ensures few { result.width ≤ 25 }
+    ensures marked { Marked beyond.old quarter beyond.new }
+{
+    if beyond.middle[quarter] {
+        return bits.with_zeros_if(true, zero_planes - middle);
+    }
+    let first = beyond.mark_top();
+    let next = beyond.mark_middle(quarter);
+    bits.with_zeros_if(first, top)
+        .with_zeros_if(next, middle - top)
+        .with_zeros_if(true, zero_planes - middle)
 }
 
 // Puts a block's bits (ISO/IEC 15444-1, B.10.4 to B.10.7), in a band of at most 20 magnitude bit planes.
-pub fn put_block<S: BitSink>(trees: &mut Trees, x: u8, y: u8, planes: u8, entry: Entry, out: &mut S)
-    requires column { x < width_of trees.old.inclusion }
-    requires row { y < height_of trees.old.inclusion }
-    requires column_of { x < width_of trees.old.zero_planes }
-    requires row_of { y < height_of trees.old.zero_planes }
+pub fn put_block<S: BitSink>(
+    marks: &mut BandMarks,
+    quarter: usize,
+    top: Above,
+    middle: Above,
+    planes: u8,
+    entry: Entry,
+    out: &mut S,
+)
+    requires quarter { quarter < 4 }
+    requires visited { IsTrue (mark_of marks.old.visited quarter) → IsTrue marks.old.visited.top }
+    requires beyond { IsTrue (mark_of marks.old.beyond quarter) → IsTrue marks.old.beyond.top }
     requires planes { planes ≤ 20 }
     requires entry { CanWriteEntry planes entry }
-    requires room { S.bit_count out.old + 1600 ≤ 7000 }
-    ensures bits { (words : BandTrees) (before : List BlockWords) (bits : List Bool) → TreesWritten words trees.old.inclusion trees.old.zero_planes before →
-        AtPlace words before x y → S.StandsFor out.old bits → S.StandsFor out.new (bits ++ block_bits words before (written_block entry)) }
-    ensures written { (words : BandTrees) (before : List BlockWords) → TreesWritten words trees.old.inclusion trees.old.zero_planes before →
-        AtPlace words before x y → TreesWritten words trees.new.inclusion trees.new.zero_planes (before ++ written_block entry ∷ []) }
-    ensures few { (words : BandTrees) (before : List BlockWords) → TreesWritten words trees.old.inclusion trees.old.zero_planes before →
-        S.bit_count out.new ≤ S.bit_count out.old + 77 }
+    requires top { top.zero_planes ≤ middle.zero_planes }
+    requires middle { IsTrue entry.included → middle.zero_planes ≤ entry.zero_planes }
+    requires room { S.bit_count out.old + 100 ≤ 7000 }
+    ensures bits { (bits : List Bool) → S.StandsFor out.old bits →
+        S.StandsFor out.new (bits ++ entry_list marks.old.visited marks.old.beyond quarter top middle entry) }
+    ensures few { S.bit_count out.new ≤ S.bit_count out.old + 75 }
+    ensures visited { Marked marks.old.visited quarter marks.new.visited }
+    ensures beyond { MarkedIf entry.included marks.old.beyond quarter marks.new.beyond }
 {
-    trees.inclusion.write_upto(x, y, 1, out);
+    let inclusion = inclusion_codeword(&mut marks.visited, quarter, top, middle, entry.included);
     if !entry.included {
+        out.put_number(inclusion.width, inclusion.value);
         return;
     }
-    trees
-        .zero_planes
-        .write_upto(x, y, entry.zero_planes + 1, out);
-    let passes = pass_codeword(entry.passes);
-    out.put_number(passes.width, passes.value);
-    let length = length_codeword(entry.passes, entry.len);
-    out.put_number(length.width, length.value);
+    let head = zero_plane_codeword(
+        inclusion,
+        &mut marks.beyond,
+        quarter,
+        top.zero_planes,
+        middle.zero_planes,
+        entry.zero_planes,
+    );
+    out.put_number(head.width, head.value);
+    let numbers = numbers_codeword(entry.passes, entry.len);
+    out.put_number(numbers.width, numbers.value);
 }

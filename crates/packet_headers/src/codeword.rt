@@ -1,15 +1,62 @@
 // The codewords of a block's numbers.
-ghost use Rattle.std.specs.Prelude.{◌≡◌, ◌+◌, ◌<◌, ◌≤◌, ◌^◌};
+ghost use Rattle.std.specs.Prelude.{◌≡◌, ◌+◌, ◌<◌, ◌≤◌, ◌^◌, ◌*◌, ◌++◌, []};
 ghost use Rattle.tag_trees.specs.Bits.{number};
 ghost use Rattle.packet_headers.specs.Codewords.{pass_bits, length_bits, least_raise};
+ghost use Rattle.packet_headers.specs.WriterState.{bit_if, zeros_if};
 
 use cine_nums::bit_len;
 
-// The bits of a codeword, at most 40, as a number.
+// The bits of a codeword, at most 50, as a number.
 #[derive(Clone, Copy)]
 pub struct Codeword {
     pub width: u32,
     pub value: u64,
+}
+
+impl Codeword {
+    // No bits.
+    pub fn none() -> Codeword
+        ensures bits { number result.width result.value ≡ [] }
+        ensures fits { result.value < 2 ^ result.width }
+        ensures few { result.width ≡ 0 }
+    {
+        Codeword { width: 0, value: 0 }
+    }
+
+    // A bit behind these, or none.
+    pub fn with_bit_if(self, put: bool, bit: bool) -> Codeword
+        requires room { self.width + 1 ≤ 50 }
+        requires fits { self.value < 2 ^ self.width }
+        ensures bits { number result.width result.value ≡ number self.width self.value ++ bit_if put bit }
+        ensures fits { result.value < 2 ^ result.width }
+        ensures few { result.width ≤ self.width + 1 }
+    {
+        if !put {
+            return self;
+        }
+        Codeword {
+            width: self.width + 1,
+            value: self.value * 2 + u64::from(bit),
+        }
+    }
+
+    // Zeros behind these and a 1, or nothing.
+    pub fn with_zeros_if(self, put: bool, zeros: u8) -> Codeword
+        requires room { self.width + (zeros + 1) ≤ 50 }
+        requires fits { self.value < 2 ^ self.width }
+        ensures bits { number result.width result.value ≡ number self.width self.value ++ zeros_if put zeros }
+        ensures fits { result.value < 2 ^ result.width }
+        ensures few { result.width ≤ self.width + (zeros + 1) }
+    {
+        if !put {
+            return self;
+        }
+        let more = u32::from(zeros) + 1;
+        Codeword {
+            width: self.width + more,
+            value: (self.value << more) + 1,
+        }
+    }
 }
 
 // The codeword of a number of coding passes, 1 to 164 (ISO/IEC 15444-1, Table B.4).
@@ -65,5 +112,22 @@ pub fn length_codeword(passes: u8, len: u32) -> Codeword
     Codeword {
         width: raise + 1 + width,
         value: (((2 << raise) - 2) << width) + bytes,
+    }
+}
+
+// The codewords of a block's coding passes and length, one behind the other.
+pub fn numbers_codeword(passes: u8, len: u32) -> Codeword
+    requires some { 1 ≤ passes }
+    requires most { passes ≤ 164 }
+    requires len { len ≤ 131072 }
+    ensures bits { number result.width result.value ≡ pass_bits passes ++ length_bits passes (least_raise passes len) len }
+    ensures fits { result.value < 2 ^ result.width }
+    ensures few { result.width ≤ 50 }
+{
+    let first = pass_codeword(passes);
+    let last = length_codeword(passes, len);
+    Codeword {
+        width: first.width + last.width,
+        value: (first.value << last.width) + last.value,
     }
 }

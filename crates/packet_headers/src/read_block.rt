@@ -1,7 +1,7 @@
 // Reading a block's part of a packet header (ISO/IEC 15444-1, B.10.4 to B.10.7).
-ghost use Rattle.std.specs.Prelude.{◌≡◌, ◌≢◌, ℕ, ◌*◌, ◌<◌, ◌≤◌, ◌^◌, ◌++◌, List, Bool, ◌⊎◌, length, Err};
+ghost use Rattle.std.specs.Prelude.{◌≡◌, ◌*◌, ◌<◌, ◌^◌, ◌++◌, List, Bool, ◌⊎◌, length, Err};
 ghost use Rattle.tag_trees.specs.TagTree.{Writing};
-ghost use Rattle.tag_trees.specs.TreeState.{width_of, height_of, Stands, Allows};
+ghost use Rattle.tag_trees.specs.TreeState.{Stands, Allows};
 ghost use Rattle.tag_trees.specs.BitState.{Took};
 ghost use Rattle.tag_trees.specs.Stuffing.{fault_of};
 ghost use Rattle.packet_headers.specs.Words.{BlockWords, BandTrees, leaf_at, inclusion_writings, zero_plane_writings};

@@ -1,12 +1,12 @@
 // Reading the bits of a packet header (ISO/IEC 15444-1, B.10.8).
-ghost use Rattle.std.specs.Prelude.{◌≡◌, ◌*◌, ◌<◌, ◌^◌, ◌++◌, List, Bool, ◌⊎◌, length, replicate, Ok, Err};
+ghost use Rattle.std.specs.Prelude.{◌≡◌, ◌*◌, ◌<◌, ◌^◌, ◌++◌, List, Bool, ◌⊎◌, length, Ok, Err};
 ghost use Rattle.tag_trees.specs.BitState.{Took};
 ghost use Rattle.tag_trees.specs.Stuffing.{fault_of};
 ghost use Rattle.packet_headers.specs.Words.{PacketWords, band_of, packet_of, header_words};
 ghost use Rattle.packet_headers.specs.Grammar.{WordsFit, ZeroStop, PassStop};
 ghost use Rattle.packet_headers.specs.declared.refusal.PacketRefusal.TheVariants.{ZeroPlanesTooMany, PassesTooMany};
 ghost use Rattle.packet_headers.specs.Reading.{refusal_of, CanReadBand, CanRead};
-ghost use Rattle.packet_headers.specs.ReadSteps.{ToldBands, ToldBandsFit, told_bands_bits, TellsBands, FoundBands, FoundHeader, kept_packet, last_place, no_entry, empty_band, empty_words};
+ghost use Rattle.packet_headers.specs.ReadSteps.{ToldBands, ToldBandsFit, told_bands_bits, TellsBands, FoundBands, FoundHeader, kept_packet, last_place, empty_band, empty_words};
 
 use crate::entry::Entry;
 use crate::packet::{BandShape, Packet, PacketBand, PacketShape};
@@ -44,13 +44,13 @@ fn empty_packet(shape: &PacketShape) -> Packet
 {
     let mut bands = ArrayVec::new();
     for band in shape.bands.as_slice() {
-        bands.push(unfilled(*band));
+        bands.push(empty_band(*band));
     }
     Packet { bands }
 }
 
 // A band without an included block.
-fn unfilled(shape: BandShape) -> PacketBand
+fn empty_band(shape: BandShape) -> PacketBand
     requires shape { CanReadBand shape }
     ensures { result ≡ band_of (empty_band shape) }
 {

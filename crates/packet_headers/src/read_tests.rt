@@ -1,5 +1,5 @@
 // Worked headers, read.
-ghost use Rattle.std.specs.Prelude.{◌≡◌, ◌<◌, ◌≤◌};
+ghost use Rattle.std.specs.Prelude.{◌≤◌};
 ghost use Rattle.packet_headers.specs.Reading.{CanRead};
 
 use crate::{BandShape, Entry, Packet, PacketBand, PacketRead, PacketRefusal, PacketShape, read};

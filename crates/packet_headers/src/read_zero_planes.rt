@@ -1,5 +1,5 @@
 // Reading a block's zero planes (ISO/IEC 15444-1, B.10.5).
-ghost use Rattle.std.specs.Prelude.{◌≡◌, ◌≢◌, ℕ, ◌+◌, ◌<◌, ◌≤◌, [], ◌∷◌, ◌++◌, List, Bool, ◌⊎◌, min, Err, Ok, IfOk};
+ghost use Rattle.std.specs.Prelude.{◌≡◌, ◌≢◌, ℕ, ◌+◌, ◌<◌, ◌≤◌, ◌++◌, List, Bool, ◌⊎◌, min, Err, Ok, IfOk};
 ghost use Rattle.tag_trees.specs.TagTree.{Writing, leaf_node, IsNumbering, bits_of_writing};
 ghost use Rattle.tag_trees.specs.TreeState.{width_of, height_of, levels_of, Stands, Allows};
 ghost use Rattle.tag_trees.specs.Stuffing.{fault_of};

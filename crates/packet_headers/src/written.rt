@@ -33,7 +33,7 @@ fn put_header<S: BitSink>(packet: &Packet, out: &mut S)
     requires packet { CanWrite packet.now }
     requires room { S.bit_count out.old ≡ 0 }
     ensures bits { (bits : List Bool) → S.StandsFor out.old bits → S.StandsFor out.new (bits ++ written_bits packet.now) }
-    ensures few { S.bit_count out.new ≤ 3697 }
+    ensures few { S.bit_count out.new ≤ 3601 }
 {
     if !includes(packet) {
         out.put_number(1, 0);

@@ -303,7 +303,7 @@ among_leaf c r x y hc hx hy h =
 place_of_leaf : (width k x y : ℕ) → k % width ≡ x → k / width ≡ y → k ≡ y * width + x
 place_of_leaf width k x y c r = let e = div-add-mod' k width in let e' = rw (c, r) at e in sym e'
 
-leaf_apart : (width k x y : ℕ) → k % width ≤ 3 → x ≤ 3 → y ≤ 3 → (k ≡ y * width + x → ⊥) → is_among (path_of 2 (k % width) (k / width)) (leaf_node x y) ≡ false
+pub leaf_apart : (width k x y : ℕ) → k % width ≤ 3 → x ≤ 3 → y ≤ 3 → (k ≡ y * width + x → ⊥) → is_among (path_of 2 (k % width) (k / width)) (leaf_node x y) ≡ false
 leaf_apart width k x y hk hx hy ne = elim (cases_Bool (is_among (path_of 2 (k % width) (k / width)) (leaf_node x y))) [
   | inl t ↦ absurd (let b = among_leaf (k % width) (k / width) x y hk hx hy t in ne (place_of_leaf width k x y b.0 b.1))
   | inr f ↦ f

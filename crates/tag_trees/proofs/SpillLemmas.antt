@@ -116,19 +116,19 @@ room_for_spill bytes held filled width bits s =
     let l = ap length s.bits_are in
     omega (arith, s.few, useful-length false bytes, length-append (useful false bytes) (number filled held))
 
--- the bits of a byte begun and of a number fit 48 bits
-pub held_small : (part w value : ℕ) → part < 256 → w ≤ 40 → value < 2 ^ w → part * 2 ^ w + value < 2 ^ 48
+-- the bits of a byte begun and of a number fit 58 bits
+pub held_small : (part w value : ℕ) → part < 256 → w ≤ 50 → value < 2 ^ w → part * 2 ^ w + value < 2 ^ 58
 held_small part w value a b h =
-    let p : 2 ^ w ≤ 2 ^ 40 = pow_mono b in
+    let p : 2 ^ w ≤ 2 ^ 50 = pow_mono b in
     let m : part * 2 ^ w ≤ 255 * 2 ^ w = mul-le-mul_right (2 ^ w) (omega arith) in
     omega arith
 
-pub shifted_whole : (part w value : ℕ) → part < 256 → w ≤ 40 → value < 2 ^ w → part * 2 ^ w % 2 ^ 64 ≡ part * 2 ^ w
+pub shifted_whole : (part w value : ℕ) → part < 256 → w ≤ 50 → value < 2 ^ w → part * 2 ^ w % 2 ^ 64 ≡ part * 2 ^ w
 shifted_whole part w value a b h = let s = held_small part w value a b h in omega arith
 
-pub mask_is : (held left : ℕ) → left ≤ 40 → bit_and held (1 * 2 ^ left % 18446744073709551616 - 1) ≡ held % 2 ^ left
+pub mask_is : (held left : ℕ) → left ≤ 57 → bit_and held (1 * 2 ^ left % 18446744073709551616 - 1) ≡ held % 2 ^ left
 mask_is held left h =
-    let p : 2 ^ left ≤ 2 ^ 40 = pow_mono h in
+    let p : 2 ^ left ≤ 2 ^ 57 = pow_mono h in
     let e : 1 * 2 ^ left % 18446744073709551616 ≡ 2 ^ left = omega arith in
     ap (λ k. bit_and held (k - 1)) e ∙ and_mask held left
 

@@ -26,6 +26,9 @@ pub struct BitCount {
     ghost few: { bits ≤ 7000 },
 }
 
+// How many bits a byte behind FF holds.
+const BEHIND_FF: u32 = 7;
+
 impl BitCount {
     ghost use Rattle.std.specs.Prelude.{List, [], Bool};
     ghost use Rattle.tag_trees.specs.Stuffing.{packed};
@@ -52,7 +55,7 @@ impl BitCount {
         if self.filled > 0 {
             return self.whole + 1;
         }
-        if self.width == 7 {
+        if self.width == BEHIND_FF {
             return self.whole + 1;
         }
         self.whole

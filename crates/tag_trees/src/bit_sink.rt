@@ -12,9 +12,9 @@ pub trait BitSink {
     ghost bit_count: { Self → ℕ };
 
     /// Puts the low bits of a number, the high one first, behind those that were put. `width` says how many,
-    /// at most 40, and the number has no higher ones.
+    /// at most 50, and the number has no higher ones.
     fn put_number(&mut self, width: u32, value: u64)
-        requires width { width ≤ 40 }
+        requires width { width ≤ 50 }
         requires value { value < 2 ^ width }
         requires room { bit_count self.old + width ≤ 7000 }
         ensures count { bit_count self.new ≡ bit_count self.old + width }

@@ -5,7 +5,7 @@ ghost use Rattle.std.specs.Prelude.{◌≡◌, ◌+◌, ◌*◌, ◌/◌, ◌%�
 #[inline]
 pub fn held_with(part: u32, width: u32, value: u64) -> u64
     requires part { part < 256 }
-    requires width { width ≤ 40 }
+    requires width { width ≤ 50 }
     requires value { value < 2 ^ width }
     ensures { result ≡ part * 2 ^ width + value }
 {
@@ -15,7 +15,7 @@ pub fn held_with(part: u32, width: u32, value: u64) -> u64
 // All bits but the low ones, which fill a byte.
 #[inline]
 pub fn high_byte(held: u64, left: u32) -> u8
-    requires left { left ≤ 40 }
+    requires left { left ≤ 57 }
     requires fits { held / 2 ^ left < 256 }
     ensures { result ≡ held / 2 ^ left }
 {
@@ -25,7 +25,7 @@ pub fn high_byte(held: u64, left: u32) -> u8
 // The low bits.
 #[inline]
 pub fn low_bits(held: u64, left: u32) -> u64
-    requires left { left ≤ 40 }
+    requires left { left ≤ 57 }
     ensures { result ≡ held % 2 ^ left }
 {
     held & ((1 << left) - 1)

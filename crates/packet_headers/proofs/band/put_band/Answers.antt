@@ -1,33 +1,56 @@
-use Rattle.std.proofs.Common.{append_assoc, sym, subst, arith}
+use Rattle.std.proofs.Common.{false, ◌/◌, ◌%◌, [], ◌++◌, map, take, append_assoc, sym, ap, ◌∙◌, subst, arith}
+use Rattle.std.proofs.Math.Nat.{zero-mod, zero-div}
 use Rattle.std.proofs.lemmas.List.{append-nil}
-use Rattle.packet_headers.specs.Words.{blocks_bits, inclusion_writings, zero_plane_writings}
-use Rattle.packet_headers.specs.Written.{written_trees}
-use Rattle.packet_headers.proofs.BlockLemmas.{blocks_bits-push, written_push, written_place}
+use Rattle.packet_headers.specs.Words.{blocks_bits}
+use Rattle.packet_headers.specs.Written.{written_block, written_trees}
+use Rattle.packet_headers.proofs.BlockLemmas.{blocks_bits-push, written_push}
+use Rattle.packet_headers.proofs.MarkLemmas.{marks_further, order_kept}
+use Rattle.packet_headers.proofs.AboveLemmas.{entry_bits}
+use Rattle.packet_headers.proofs.BandLemmas.{next_index}
+use Rattle.packet_headers.proofs.EntryLemmas.{entry_at}
 use Rattle.packet_headers.proofs.band.put_band.Goals as goal
 
-pub loop-place-init : goal.loop-place-init
-unfolding inclusion_writings zero_plane_writings blocks_bits
-loop-place-init g c = record {
-  trees = record {
-    width = c.inclusion_tree.ensures.width;
-    height = c.inclusion_tree.ensures.height;
-    zero_width = c.zero_plane_tree.ensures.width;
-    zero_height = c.zero_plane_tree.ensures.height;
-    inclusion_is = c.inclusion_tree.ensures.written;
-    zero_planes_is = c.zero_plane_tree.ensures.written;
-  };
+pub loop-entry-init : goal.loop-entry-init
+unfolding blocks_bits
+loop-entry-init g c = record {
+  marks = c.fresh_marks-marks.ensures.stand;
+  visited_order = c.fresh_marks-marks.ensures.visited;
+  beyond_order = c.fresh_marks-marks.ensures.beyond;
   bits = λ bits h. subst (λ r. g.S.BitSink.StandsFor c.args.out.now r) (sym (append-nil bits)) h;
   few = omega arith;
+  column = sym (zero-mod c.args.band.now.width);
+  row = sym (zero-div c.args.band.now.width);
 }
 
-pub loop-place-preserved : goal.loop-place-preserved
-loop-place-preserved g c =
+pub put_block-requires-clause-top : goal.put_block-requires-clause-top
+put_block-requires-clause-top g c =
+    let a = entry_at c.args.band.now _ c.loop-entry.entry-index _ _ _ (record { included = false; zero_planes = 0; passes = 0; len = 0 }) _ _ c.requires.band
+    c.as_slice-entry-items.ensures.value c.loop-entry-test.true c.loop-entry.invariant.column c.loop-entry.invariant.row c.quarter-quarter.ensures.node c.quarter-quarter.ensures.below c.above_of-above.ensures in
+    a.rises.top_le
+
+pub put_block-requires-clause-middle : goal.put_block-requires-clause-middle
+put_block-requires-clause-middle g c =
+    let a = entry_at c.args.band.now _ c.loop-entry.entry-index _ _ _ (record { included = false; zero_planes = 0; passes = 0; len = 0 }) _ _ c.requires.band
+    c.as_slice-entry-items.ensures.value c.loop-entry-test.true c.loop-entry.invariant.column c.loop-entry.invariant.row c.quarter-quarter.ensures.node c.quarter-quarter.ensures.below c.above_of-above.ensures in
+    a.rises.middle_le
+
+pub loop-entry-preserved : goal.loop-entry-preserved
+loop-entry-preserved g c =
     let words = written_trees c.args.band.now in
-    let push = written_push _ _ c.loop-place.place _ c.as_slice-entry-items.ensures.value c.loop-place-test.true in
-    let at = written_place words _ _ c.loop-place.place c.as_slice-entry-items.ensures.value c.loop-place-test.true in
+    let k = c.loop-entry.invariant in
+    let a = entry_at c.args.band.now _ c.loop-entry.entry-index _ _ _ (record { included = false; zero_planes = 0; passes = 0; len = 0 }) _ _ c.requires.band
+    c.as_slice-entry-items.ensures.value c.loop-entry-test.true c.loop-entry.invariant.column c.loop-entry.invariant.row c.quarter-quarter.ensures.node c.quarter-quarter.ensures.below c.above_of-above.ensures in
+    let push = written_push c.args.band.now.entries.items _ c.loop-entry.entry-index (record { included = false; zero_planes = 0; passes = 0; len = 0 }) c.as_slice-entry-items.ensures.value c.loop-entry-test.true in
+    let n = next_index _ _ _ _ _ a.inside in
+    let own = entry_bits words _ _ _ _ _ _ _ _ _ c.quarter-quarter.ensures.node c.quarter-quarter.ensures.below a.at c.above_of-above.ensures k.marks a.rises a.includes a.zero_planes a.fresh a.zero_fresh in
     record {
-      trees = rw push (c.put_block.ensures.written words _ c.loop-place.invariant.trees at);
-      bits = λ bits h. rw (push, blocks_bits-push) (subst (λ r. g.S.BitSink.StandsFor c.put_block.new.out r) (append_assoc bits _ _)
-          (c.put_block.ensures.bits words _ _ c.loop-place.invariant.trees at (c.loop-place.invariant.bits bits h)));
-      few = (let f = c.put_block.ensures.few words _ c.loop-place.invariant.trees in omega (arith, c.loop-place.invariant.few));
+      marks = rw push (marks_further words _ _ _ _ _ (omega (arith, a.inside.column, c.requires.band.width)) (omega (arith, a.inside.row, c.requires.band.height)) c.quarter-quarter.ensures.node a.at a.rises.below
+          _ _ _ _ k.marks c.put_block.ensures.visited c.put_block.ensures.beyond);
+      visited_order = λ q h m. c.put_block.ensures.visited.top;
+      beyond_order = order_kept _ _ _ _ c.put_block.ensures.beyond k.beyond_order;
+      bits = λ bits h. rw (push, blocks_bits-push) (subst (λ r. g.S.BitSink.StandsFor c.put_block.new.out r) (ap (λ r. (bits ++ blocks_bits words [] (map written_block (take c.loop-entry.entry-index c.args.band.now.entries.items))) ++ r) own ∙ append_assoc bits _ _)
+          (c.put_block.ensures.bits _ (k.bits bits h)));
+      few = omega (arith, c.put_block.ensures.few, k.few);
+      column = c.next-place.ensures.column ∙ ap (λ r. r % c.args.band.now.width) n;
+      row = c.next-place.ensures.row ∙ ap (λ r. r / c.args.band.now.width) n;
     }

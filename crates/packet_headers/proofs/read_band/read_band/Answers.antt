@@ -1,4 +1,4 @@
-use Rattle.std.proofs.Common.{◌≡◌, ℕ, ◌<◌, ◌≤◌, ◌+◌, ◌*◌, List, [], length, inl, inr, arith, refl, sym, ap, subst, ◌∙◌, Err, Ok}
+use Rattle.std.proofs.Common.{List, inr, arith, refl, sym, ap, subst, ◌∙◌, Err}
 use Rattle.std.proofs.lemmas.Result.{err_from_is_err_and}
 use Rattle.packet_headers.specs.declared.entry.Entry.{Entry}
 use Rattle.packet_headers.proofs.ReadBands.{Sofar, sofar_none, less_now, sofar_next, found_err, reads_err, found_whole, reads_whole}

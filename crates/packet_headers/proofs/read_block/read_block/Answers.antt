@@ -1,4 +1,4 @@
-use Rattle.std.proofs.Common.{◌≡◌, ℕ, ◌<◌, ◌≤◌, ◌+◌, ◌*◌, ◌-◌, ◌%◌, ◌/◌, length, inl, inr, arith, ap, ◌∙◌, Err, Ok}
+use Rattle.std.proofs.Common.{◌%◌, ◌/◌, inr, arith, ap}
 use Rattle.std.specs.Prelude.{nat_lt}
 use Rattle.tag_trees.specs.TagTree.{leaf_node}
 use Rattle.tag_trees.specs.Stuffing.{fault_of}

@@ -1,4 +1,4 @@
-use Rattle.std.proofs.Common.{◌≡◌, ◌<◌, ◌≤◌, ◌+◌, ◌*◌, ◌-◌, length, inl, inr, arith, ap, ◌∙◌, Err}
+use Rattle.std.proofs.Common.{inr, arith, ap, ◌∙◌, Err}
 use Rattle.std.proofs.lemmas.Result.{err_from_is_err_and}
 use Rattle.packet_headers.proofs.ReadIncluded.{zero_at, found_zero_err, found_many, found_block, told_at, zero_less, took_less, reads_zero_err, reads_no_passes, reads_many, reads_no_len, reads_block}
 use Rattle.packet_headers.proofs.read_block.read_included.Goals as goal

@@ -1,7 +1,6 @@
-use Rattle.std.proofs.Common.{◌≡◌, ◌<◌, ◌≤◌, ◌^◌, ◌++◌, ◌+◌, ℕ, min, Bool, true, false, [], ◌∷◌, length, refl, arith, length-append, ap, subst, sym, ◌∙◌}
-use Rattle.tag_trees.specs.Bits.{value, value_from, bit_value}
-use Rattle.tag_trees.specs.BitState.{Took}
-use Rattle.packet_headers.proofs.ReadBits.{took_none, took_more, value-below, kept_more, one_took, number_ends, byte_is}
+use Rattle.std.proofs.Common.{◌≡◌, ◌^◌, ◌++◌, [], ◌∷◌, refl, arith, length-append, ap, ◌∙◌}
+use Rattle.tag_trees.specs.Bits.{value_from, bit_value}
+use Rattle.packet_headers.proofs.ReadBits.{took_none, value-below, kept_more, one_took, byte_is}
 use Rattle.packet_headers.proofs.read_codes.read_number.Goals as goal
 
 pub loop-init : goal.loop-init

@@ -1,6 +1,5 @@
-use Rattle.std.proofs.Common.{◌≡◌, ◌<◌, ◌≤◌, ◌^◌, ◌++◌, ◌+◌, ℕ, min, List, Bool, true, false, [], ◌∷◌, length, refl, arith, ap, subst, sym, ◌∙◌}
+use Rattle.std.proofs.Common.{◌≡◌, ◌<◌, ◌++◌, List, Bool, true, [], ◌∷◌, arith, ap, sym, ◌∙◌}
 use Rattle.tag_trees.specs.BitState.{BitSource, Took}
-use Rattle.packet_headers.specs.Codewords.{pass_bits}
 use Rattle.packet_headers.proofs.ReadBits.{took_more}
 use Rattle.packet_headers.proofs.ReadCodes.{took_bit, along, passes_one, passes_two, first_zero, second_zero, ends_first, ends_second, reads_two_ends, took_few, reads_few, reads_five_ends, took_some, reads_some, reads_seven_ends, took_many, reads_many}
 use Rattle.packet_headers.proofs.read_codes.read_passes.Goals as goal

@@ -1,4 +1,4 @@
-use Rattle.std.proofs.Common.{◌≡◌, arith}
+use Rattle.std.proofs.Common.{arith}
 use Rattle.packet_headers.proofs.ReadHeaders.{empty_made}
 use Rattle.packet_headers.proofs.read_packet.empty_packet.Goals as goal
 

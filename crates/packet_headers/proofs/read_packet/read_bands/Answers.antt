@@ -1,8 +1,8 @@
-use Rattle.std.proofs.Common.{◌≡◌, ℕ, ◌<◌, ◌+◌, List, [], length, get_or, inl, inr, arith, refl, sym, ap, subst, ◌∙◌, Err, Ok}
+use Rattle.std.proofs.Common.{◌≡◌, ℕ, ◌<◌, List, length, get_or, inr, arith, refl, sym, ap, subst, ◌∙◌, Err}
 use Rattle.std.proofs.lemmas.Result.{err_from_is_err_and}
 use Rattle.packet_headers.specs.declared.packet.BandShape.{BandShape}
 use Rattle.packet_headers.specs.declared.packet.PacketBand.{PacketBand}
-use Rattle.packet_headers.proofs.ReadPackets.{BandsSofar, bands_sofar_none, bands_less, bands_sofar_next, bands_found_err, bands_reads_err, bands_found_whole, bands_reads_whole}
+use Rattle.packet_headers.proofs.ReadPackets.{BandsSofar, bands_sofar_none, bands_sofar_next, bands_found_err, bands_reads_err, bands_found_whole, bands_reads_whole}
 use Rattle.packet_headers.proofs.read_packet.read_bands.Goals as goal
 
 pub loop-band-init : goal.loop-band-init

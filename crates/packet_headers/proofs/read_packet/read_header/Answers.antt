@@ -1,4 +1,4 @@
-use Rattle.std.proofs.Common.{◌≡◌, ◌<◌, ◌≤◌, Bool, true, false, List, [], ◌∷◌, ◌++◌, length, inl, inr, arith, refl, sym, ap, ◌∙◌, Ok, Err}
+use Rattle.std.proofs.Common.{◌≡◌, Bool, [], ◌∷◌, ◌++◌, inr, arith, ap, Ok}
 use Rattle.tag_trees.specs.BitState.{BitSource, Took}
 use Rattle.tag_trees.specs.Stuffing.{fault_of}
 use Rattle.packet_headers.proofs.ReadCodes.{along, took_bit}

@@ -1,4 +1,4 @@
-use Rattle.std.proofs.Common.{◌≡◌, ℕ, ◌+◌, ◌≤◌, ◌<◌, refl, inl, inr, arith, sym, ap, ◌∙◌, Ok, Err}
+use Rattle.std.proofs.Common.{refl, inr, arith}
 use Rattle.packet_headers.proofs.ReadZeroPlanes.{asked_none, no_fault, asked_next, found_reads, found_here, all_found_at, not_end}
 use Rattle.packet_headers.proofs.read_zero_planes.read_zero_planes.Goals as goal
 

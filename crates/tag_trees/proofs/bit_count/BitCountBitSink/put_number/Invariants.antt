@@ -8,7 +8,7 @@ invariant-loop-full l = record {
   counts : (bits : List Bool) → Counts l.fn.self.whole l.fn.self.part l.fn.self.filled l.fn.self.width l.fn.self.bits bits
       → Counts l.whole l.held l.filled l.full (l.fn.self.bits + l.width) (bits ++ number l.width l.value);
   below : l.held < 2 ^ l.filled;
-  few : l.filled ≤ 47;
+  few : l.filled ≤ 57;
   least : 7 ≤ l.full;
   most : l.full ≤ 8;
   whole_few : 7 * l.whole + l.filled ≤ l.fn.self.bits + l.width;

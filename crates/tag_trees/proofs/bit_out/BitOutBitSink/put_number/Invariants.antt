@@ -6,7 +6,7 @@ use Rattle.tag_trees.proofs.bit_out.BitOutBitSink.put_number.Given as goal
 abbrev pub invariant-loop-full : goal.invariant-loop-full
 invariant-loop-full l = record {
   spills : Spills l.self-inside.bytes.items l.held l.filled l.full (l.fn.self ++ number l.width l.value);
-  few : l.filled ≤ 47;
+  few : l.filled ≤ 57;
 }
 
 abbrev pub decreases-loop-full : goal.decreases-loop-full

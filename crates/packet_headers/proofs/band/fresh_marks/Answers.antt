@@ -1,0 +1,11 @@
+use Rattle.packet_headers.proofs.BandLemmas.{marks_first, order_first}
+use Rattle.packet_headers.proofs.band.fresh_marks.Goals as goal
+
+pub returns-clause-stand : goal.returns-clause-stand
+returns-clause-stand c = marks_first c.args.band.now c.max-side.result c.max-side.ensures
+
+pub returns-clause-visited : goal.returns-clause-visited
+returns-clause-visited c = order_first c.max-side.result
+
+pub returns-clause-beyond : goal.returns-clause-beyond
+returns-clause-beyond c = order_first c.max-side.result
