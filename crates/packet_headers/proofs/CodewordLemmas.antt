@@ -7,7 +7,7 @@ use Rattle.std.proofs.Math.Nat.{pow-suc, one-le-pow, mul-le-mul_right}
 use Rattle.std.proofs.lemmas.Nat.{pow-add}
 use Rattle.std.proofs.Math.Pow.{pow_mono}
 use Rattle.cine_nums.specs.Bits.{bit_len}
-use Rattle.cine_nums.proofs.BitLength.{bit_len-above, bit_len-within}
+use Rattle.cine_nums.proofs.BitLength.{bit_len-above, bit_len-within, bit_len-monotone}
 use Rattle.tag_trees.specs.Bits.{number}
 use Rattle.tag_trees.proofs.SpillLemmas.{number-join, join_below, one_fits}
 use Rattle.packet_headers.specs.Codewords.{pass_bits, length_bits, length_width, least_raise}
@@ -84,6 +84,7 @@ pub record LengthWidths (passes len least raise width : ℕ) : Type 0 where
   pub raise_is : raise ≡ least_raise passes len
   pub raise_few : raise ≤ 15
   pub few : raise + 1 + width ≤ 34
+  pub short : 37 ≤ passes → raise + 1 + width ≤ 29
   pub fits : len < 2 ^ width
 
 pub length_widths : (passes len least raise width : ℕ) → 1 ≤ passes → passes ≤ 164 → len ≤ 131072 → least ≡ 2 + bit_len passes → raise ≡ bit_len len - least → width ≡ least + raise
@@ -100,6 +101,7 @@ length_widths passes len least raise width some most h a b w =
       raise_is = omega arith;
       raise_few = omega arith;
       few = omega arith;
+      short = λ h. (let six : 6 ≤ bit_len passes = bit_len-monotone 37 passes h in omega arith);
       fits = omega arith;
     }
 

@@ -17,3 +17,4 @@ pub mod ReadPackets
 pub mod ReadHeaders
 pub mod ReadWhole
 pub mod FitsLemmas
+pub mod LengthLemmas

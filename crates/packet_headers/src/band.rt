@@ -78,7 +78,7 @@ pub fn put_band<S: BitSink>(band: &PacketBand, out: &mut S)
     requires room { S.bit_count out.old + 1300 ≤ 7000 }
     ensures bits { (bits : List Bool) → S.StandsFor out.old bits →
         S.StandsFor out.new (bits ++ blocks_bits (written_trees band.now) [] (written_band band.now).blocks) }
-    ensures few { S.bit_count out.new ≤ S.bit_count out.old + 1200 }
+    ensures few { S.bit_count out.new ≤ S.bit_count out.old + 1120 }
 {
     let above = above_of(band);
     let mut marks = fresh_marks(band);

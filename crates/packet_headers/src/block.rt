@@ -94,7 +94,7 @@ pub fn put_block<S: BitSink>(
     requires room { S.bit_count out.old + 100 ≤ 7000 }
     ensures bits { (bits : List Bool) → S.StandsFor out.old bits →
         S.StandsFor out.new (bits ++ entry_list marks.old.visited marks.old.beyond quarter top middle entry) }
-    ensures few { S.bit_count out.new ≤ S.bit_count out.old + 75 }
+    ensures few { S.bit_count out.new ≤ S.bit_count out.old + 70 }
     ensures visited { Marked marks.old.visited quarter marks.new.visited }
     ensures beyond { MarkedIf entry.included marks.old.beyond quarter marks.new.beyond }
 {

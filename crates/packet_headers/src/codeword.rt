@@ -66,6 +66,7 @@ pub fn pass_codeword(passes: u8) -> Codeword
     ensures bits { number result.width result.value ≡ pass_bits passes }
     ensures fits { result.value < 2 ^ result.width }
     ensures few { result.width ≤ 16 }
+    ensures short { passes ≤ 36 → result.width ≤ 9 }
 {
     let passes = u64::from(passes);
     if passes <= 1 {
@@ -104,6 +105,7 @@ pub fn length_codeword(passes: u8, len: u32) -> Codeword
     ensures bits { number result.width result.value ≡ length_bits passes (least_raise passes len) len }
     ensures fits { result.value < 2 ^ result.width }
     ensures few { result.width ≤ 34 }
+    ensures short { 37 ≤ passes → result.width ≤ 29 }
 {
     let bytes = u64::from(len);
     let least = 2 + u32::from(bit_len(u32::from(passes)));
@@ -122,7 +124,7 @@ pub fn numbers_codeword(passes: u8, len: u32) -> Codeword
     requires len { len ≤ 131072 }
     ensures bits { number result.width result.value ≡ pass_bits passes ++ length_bits passes (least_raise passes len) len }
     ensures fits { result.value < 2 ^ result.width }
-    ensures few { result.width ≤ 50 }
+    ensures few { result.width ≤ 45 }
 {
     let first = pass_codeword(passes);
     let last = length_codeword(passes, len);

@@ -33,7 +33,7 @@ fn put_header<S: BitSink>(packet: &Packet, out: &mut S)
     requires packet { CanWrite packet.now }
     requires room { S.bit_count out.old ≡ 0 }
     ensures bits { (bits : List Bool) → S.StandsFor out.old bits → S.StandsFor out.new (bits ++ written_bits packet.now) }
-    ensures few { S.bit_count out.new ≤ 3601 }
+    ensures few { S.bit_count out.new ≤ 3361 }
 {
     if !includes(packet) {
         out.put_number(1, 0);
@@ -56,6 +56,7 @@ pub fn header(p: &Packet) -> ArrayVec<u8, 1024>
     requires { CanWrite p.now }
     ensures bytes { result.items ≡ packed (written_bits p.now) }
     ensures stuffed { Stuffs (written_bits p.now) result.items }
+    ensures few { length result.items ≤ 449 }
 
     // It spells the packet, whatever follows, where an entry that isn't included has zeros.
     ensures found { ArePlain p.now → (rest : List ℕ) → HasHeader (shapes_of p.now) (written p.now) (result.items ++ rest) (length result.items) }
@@ -69,7 +70,9 @@ pub fn header(p: &Packet) -> ArrayVec<u8, 1024>
 /// The number of bytes of `header`, under the same conditions, without making them.
 pub fn header_len(p: &Packet) -> u32
     requires { CanWrite p.now }
-    ensures { result ≡ length (packed (written_bits p.now)) }
+    ensures value { result ≡ length (packed (written_bits p.now)) }
+    ensures some { 1 ≤ result }
+    ensures few { result ≤ 449 }
 {
     let mut count = BitCount::new();
     put_header(p, &mut count);

@@ -11,7 +11,7 @@ invariant-loop-entry g l = record {
   beyond_order : TopFirst l.marks.beyond;
   bits : (bits : List Bool) → g.S.BitSink.StandsFor l.initial.out bits
       → g.S.BitSink.StandsFor l.out (bits ++ blocks_bits (written_trees l.band) [] (map written_block (take l.entry-index l.band.entries.items)));
-  few : g.S.BitSink.bit_count l.out ≤ g.S.BitSink.bit_count l.initial.out + 75 * l.entry-index;
+  few : g.S.BitSink.bit_count l.out ≤ g.S.BitSink.bit_count l.initial.out + 70 * l.entry-index;
   column : l.place.x ≡ l.entry-index % l.band.width;
   row : l.place.y ≡ l.entry-index / l.band.width;
 }

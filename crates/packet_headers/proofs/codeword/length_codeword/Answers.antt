@@ -30,3 +30,6 @@ returns-clause-fits c = rw (length_whole _ _ _ _ _ _ (widths c) c.from-bytes.ens
 
 pub returns-clause-few : goal.returns-clause-few
 returns-clause-few c = let w = widths c in w.few
+
+pub returns-clause-short : goal.returns-clause-short
+returns-clause-short c = let w = widths c in w.short

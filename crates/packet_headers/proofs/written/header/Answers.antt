@@ -1,6 +1,7 @@
-use Rattle.std.proofs.Common.{[], ap, ◌∙◌, subst}
+use Rattle.std.proofs.Common.{[], ap, ◌∙◌, subst, arith}
 use Rattle.tag_trees.specs.Stuffing.{packed, Stuffs}
 use Rattle.packet_headers.proofs.FitsLemmas.{header_found, packet_same}
+use Rattle.packet_headers.proofs.LengthLemmas.{packed_short}
 use Rattle.packet_headers.proofs.written.header.Goals as goal
 
 pub returns-clause-bytes : goal.returns-clause-bytes
@@ -15,3 +16,6 @@ returns-clause-found c = λ plain rest. header_found c.args.p.now c.finish.resul
 
 pub returns-clause-packet : goal.returns-clause-packet
 returns-clause-packet c = packet_same c.args.p.now
+
+pub returns-clause-few : goal.returns-clause-few
+returns-clause-few c = rw c.finish.ensures.bytes (let s = packed_short c.put_header.new.out 3361 c.put_header.ensures.few in omega arith)

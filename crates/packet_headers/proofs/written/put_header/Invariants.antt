@@ -7,5 +7,5 @@ abbrev pub invariant-loop-band : goal.invariant-loop-band
 invariant-loop-band g l = record {
   bits : (bits : List Bool) → g.S.BitSink.StandsFor l.fn.out bits
       → g.S.BitSink.StandsFor l.out (bits ++ true ∷ bands_bits (map written_band (take l.band-index l.packet.bands.items)));
-  few : g.S.BitSink.bit_count l.out ≤ 1 + 1200 * l.band-index;
+  few : g.S.BitSink.bit_count l.out ≤ 1 + 1120 * l.band-index;
 }
