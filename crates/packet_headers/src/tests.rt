@@ -1,6 +1,6 @@
 // Worked headers.
 ghost use Rattle.std.specs.Prelude.{◌≡◌, ◌<◌, ◌≤◌, ◌+◌, ◌*◌, ◌-◌, length};
-ghost use Rattle.packet_headers.specs.Written.{CanWrite};
+ghost use Rattle.packet_headers.specs.Written.{CanWrite, CanWriteBand, CanWriteEntry};
 
 use crate::{Entry, Packet, PacketBand, header, header_len};
 use arrayvec::ArrayVec;
@@ -54,6 +54,56 @@ fn no_band() -> Packet
     }
 }
 
+// Entries of any kind, in a band of 9 planes.
+fn entry_of(place: u32, seed: u32) -> Entry
+    requires place { place < 16 }
+    requires seed { seed < 1000 }
+    ensures { CanWriteEntry 9 result }
+{
+    let x = (place * 37 + seed) % 251;
+    if x % 3 == 1 {
+        return Entry::default();
+    }
+    Entry {
+        included: true,
+        zero_planes: (x / 3 % 5) as u8,
+        passes: (1 + x % 12) as u8,
+        len: 1 + x * x % 3000,
+    }
+}
+
+fn band_of(width: u8, height: u8, seed: u32) -> PacketBand
+    requires width { width ≤ 4 }
+    requires height { height ≤ 4 }
+    requires seed { seed < 1000 }
+    ensures { CanWriteBand result }
+{
+    let mut entries: ArrayVec<Entry, 16> = ArrayVec::new();
+    let count = u32::from(width) * u32::from(height);
+    for place in 0..count {
+        entries.push(entry_of(place, seed));
+    }
+    PacketBand {
+        width,
+        height,
+        planes: 9,
+        entries,
+    }
+}
+
+fn packet_of(first: PacketBand, second: PacketBand, third: PacketBand) -> Packet
+    requires first { CanWriteBand first }
+    requires second { CanWriteBand second }
+    requires third { CanWriteBand third }
+    ensures { CanWrite result }
+{
+    let mut bands: ArrayVec<PacketBand, 3> = ArrayVec::new();
+    bands.push(first);
+    bands.push(second);
+    bands.push(third);
+    Packet { bands }
+}
+
 #[test]
 fn one_block_of_few_and_many_passes(rt: HostRuntime) {
     let few = one_block(18, 11, 18, 1);
@@ -94,4 +144,30 @@ fn empty_packet(rt: HostRuntime) {
     let no_bands = no_band();
     assert_eq!(rt; header(&no_bands).as_slice(), [0x00].as_slice());
     assert_eq!(rt; header_len(&no_bands), 1);
+}
+
+#[test]
+fn three_bands_of_three_levels(rt: HostRuntime) {
+    let packet = packet_of(band_of(4, 3, 5), band_of(2, 4, 70), band_of(3, 1, 190));
+    let expected = [
+        0xFB, 0xF0, 0x35, 0x1F, 0x0F, 0xED, 0xCB, 0x63, 0xE3, 0xFA, 0xD8, 0xFE, 0x4F, 0xD2, 0xD4,
+        0xFC, 0xDE, 0x84, 0x9B, 0xCF, 0xF4, 0xE2, 0xC7, 0x7F, 0x62, 0x2A, 0x3F, 0x07, 0xEF, 0x05,
+        0xBF, 0xCD, 0xFA, 0x64, 0xA2, 0xFF, 0x55, 0x62, 0xD7, 0x3F, 0xD3, 0xBA, 0x9F, 0x07, 0xED,
+        0x25, 0xF8, 0x75, 0x5D, 0xFE, 0x6F, 0x42, 0x40,
+    ];
+    assert_eq!(rt; header(&packet).as_slice(), expected.as_slice());
+    assert_eq!(rt; header_len(&packet), 53);
+}
+
+#[test]
+fn three_bands_of_other_sides(rt: HostRuntime) {
+    let packet = packet_of(band_of(4, 4, 5), band_of(1, 3, 70), band_of(2, 2, 190));
+    let expected = [
+        0xFB, 0xF0, 0x35, 0x1F, 0x0F, 0xED, 0xCB, 0x63, 0xE3, 0xFA, 0xD8, 0xFE, 0x4F, 0xD2, 0xD4,
+        0xFC, 0xDE, 0x84, 0x9B, 0xCF, 0xF4, 0xE2, 0xC7, 0x7F, 0x62, 0x2A, 0x5F, 0x07, 0xEF, 0x05,
+        0xF8, 0x7B, 0x35, 0xF9, 0x3B, 0x74, 0xDF, 0xE6, 0xFD, 0x32, 0x58, 0xDF, 0xF5, 0x58, 0xDF,
+        0xCD, 0xE8, 0x49, 0x73, 0xFD, 0x38, 0xA0,
+    ];
+    assert_eq!(rt; header(&packet).as_slice(), expected.as_slice());
+    assert_eq!(rt; header_len(&packet), 52);
 }
