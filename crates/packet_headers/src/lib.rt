@@ -3,7 +3,8 @@
 //!
 //! A header's bits are a function of the entries and of how they are spelled: the numberings of each band's
 //! two tag trees, and how often each block's Lblock is raised. `header` writes the spelling with the least
-//! numbers and raises, and `header_len` tells its length without making it. Nothing takes memory.
+//! numbers and raises, and `header_len` tells its length without making it. `read` takes every spelling, of any
+//! bytes, and refuses all else by the first fault in reading order. Nothing takes memory.
 //!
 //! ```
 //! // one band of one block: 18 planes, 11 of them zero, 18 passes and one byte
