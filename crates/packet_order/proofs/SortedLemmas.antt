@@ -1,13 +1,13 @@
 -- Insertion keeps the elements, and the order of packets is transitive.
-use Rattle.std.proofs.Common.{◌≡◌, ℕ, zero, suc, ◌<◌, Bool, true, false, cond, List, [], ◌∷◌, ◌++◌, length, get_or, arith, sym, ap, refl, subst, append_assoc}
-use Rattle.std.specs.List.{insert, AllPairs}
+use Rattle.std.proofs.Common.{◌≡◌, ℕ, suc, Bool, true, false, cond, List, [], ◌∷◌, ◌++◌, arith, sym, ap, refl, subst, append_assoc}
+use Rattle.std.specs.List.{insert}
 use Rattle.std.specs.List.Sorted.{IsPermutation}
 use Rattle.std.proofs.lemmas.List.{append-nil}
 use Rattle.std.proofs.lemmas.List.Sorted.{IsPermutation-insert, IsPermutation-append_left, IsPermutation-to_front, IsPermutation-trans, IsPermutation-refl}
 use Rattle.std.proofs.lemmas.Bool.Decides.{nat_tests}
 use Rattle.band_geometry.specs.declared.geometry.Geometry.{Geometry}
 use Rattle.packet_order.specs.Order.{comes_before, packets_of_part, ordered_packets}
-use Rattle.packet_order.specs.Sorting.{insert_by, insert_all, sorted_by}
+use Rattle.packet_order.specs.Sorting.{insert_by, insert_all}
 
 -- an order, given as a test
 abbrev pub IsTransitive : {A : Type 0} → (A → A → Bool) → Type 0
