@@ -1,6 +1,5 @@
 -- The writer's head spells a tile-part, whatever follows it.
-use Rattle.std.proofs.Common.{◌≡◌, ℕ, ◌+◌, ◌-◌, ◌<◌, ◌≤◌, inl, List, [], ◌++◌, arith, ◌∙◌, sym, ap, refl, take, drop, length, slice_range}
-use Rattle.std.specs.List.{All}
+use Rattle.std.proofs.Common.{◌≡◌, ℕ, ◌+◌, ◌-◌, ◌≤◌, inl, List, [], ◌++◌, arith, ◌∙◌, sym, ap, refl, take, drop, length, slice_range}
 use Rattle.std.proofs.lemmas.List.{take-append-drop, length-take-le, length-drop}
 use Rattle.std.proofs.lemmas.List.Elements.{All-nil}
 use Rattle.tile_parts.specs.Head.{part_head_of}

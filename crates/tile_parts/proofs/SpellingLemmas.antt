@@ -1,5 +1,5 @@
 -- The tile-part that its bytes spell is the one that is read, and the other way round.
-use Rattle.std.proofs.Common.{◌≡◌, ℕ, zero, suc, ◌+◌, ◌-◌, ◌*◌, ◌/◌, ◌%◌, ◌<◌, ◌≤◌, ◌⊎◌, inl, inr, Bool, true, false, ◌==◌, List, [], ◌∷◌, ◌++◌, None, Some, Result, Ok, Err, MatchResult, IfOk, arith, ◌∙◌, sym, ap, refl, subst, append_assoc, get_or, take, drop, length, add-zero, lit<}
+use Rattle.std.proofs.Common.{◌≡◌, ℕ, zero, suc, ◌+◌, ◌-◌, ◌*◌, ◌/◌, ◌%◌, ◌<◌, ◌≤◌, ◌⊎◌, inl, inr, Bool, true, false, ◌==◌, List, [], ◌∷◌, ◌++◌, None, Some, Result, Ok, Err, MatchResult, IfOk, arith, ◌∙◌, sym, ap, refl, subst, append_assoc, get_or, take, drop, length, add-zero}
 use Rattle.std.specs.List.{flat_map, All}
 use Rattle.std.proofs.lemmas.List.{get_or-drop, drop_more, drop_at, length-append, length-drop, length-take-le, take-append-drop}
 use Rattle.std.proofs.lemmas.List.Elements.{All-nil, All-cons}
