@@ -18,3 +18,4 @@ pub mod ReadHeaders
 pub mod ReadWhole
 pub mod FitsLemmas
 pub mod LengthLemmas
+pub mod QuarterLemmas

@@ -7,7 +7,7 @@ ghost use Rattle.packet_headers.specs.WriterState.{AboveStands, MarksStand, TopF
 use crate::above::{Above, Marks};
 use crate::block::{BandMarks, put_block};
 use crate::packet::PacketBand;
-use crate::place::Place;
+use crate::place::quarter_of;
 use tag_trees::BitSink;
 
 // The nodes above the leaves of a band's tag trees: the one above the middle ones, and one for each quarter.
@@ -28,12 +28,10 @@ fn above_of(band: &PacketBand) -> BandAbove
     };
     let mut top = none;
     let mut middle = [none; 4];
-    let mut place = Place { x: 0, y: 0 };
-    for entry in band.entries.as_slice() {
-        let quarter = place.quarter();
+    for (place, entry) in band.entries.as_slice().iter().enumerate() {
+        let quarter = quarter_of(band.width, band.height, place);
         top = top.with(entry, band.planes);
         middle[quarter] = middle[quarter].with(entry, band.planes);
-        place = place.next(band.width);
     }
     let passed = Above {
         included: true,
@@ -82,9 +80,8 @@ pub fn put_band<S: BitSink>(band: &PacketBand, out: &mut S)
 {
     let above = above_of(band);
     let mut marks = fresh_marks(band);
-    let mut place = Place { x: 0, y: 0 };
-    for entry in band.entries.as_slice() {
-        let quarter = place.quarter();
+    for (place, entry) in band.entries.as_slice().iter().enumerate() {
+        let quarter = quarter_of(band.width, band.height, place);
         put_block(
             &mut marks,
             quarter,
@@ -94,6 +91,5 @@ pub fn put_band<S: BitSink>(band: &PacketBand, out: &mut S)
             *entry,
             out,
         );
-        place = place.next(band.width);
     }
 }

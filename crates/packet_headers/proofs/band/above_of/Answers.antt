@@ -1,32 +1,27 @@
 use Rattle.std.proofs.Common.{false, ◌/◌, ◌%◌, length, refl, sym, ap, ◌∙◌, arith}
 use Rattle.std.proofs.lemmas.List.{length-set}
-use Rattle.std.proofs.Math.Nat.{zero-mod, zero-div}
-use Rattle.packet_headers.proofs.BandLemmas.{kept_none, kept_more, inside, next_index, taken_push, taken_length, level_zero, level_one, level_two, above_zero, above_one, above_two, kept_all}
+use Rattle.packet_headers.proofs.BandLemmas.{kept_none, kept_more, inside, taken_push, taken_length, level_zero, level_one, level_two, above_zero, above_one, above_two, kept_all}
 use Rattle.packet_headers.proofs.band.above_of.Goals as goal
 
-pub loop-entry-init : goal.loop-entry-init
-loop-entry-init c = record {
+pub loop-place-init : goal.loop-place-init
+loop-place-init c = record {
   kept = kept_none _ _ _ refl;
   four = refl;
-  column = sym (zero-mod c.args.band.now.width);
-  row = sym (zero-div c.args.band.now.width);
 }
 
-pub loop-entry-preserved : goal.loop-entry-preserved
-loop-entry-preserved c =
-    let k = c.loop-entry.invariant in
+pub loop-place-preserved : goal.loop-place-preserved
+loop-place-preserved c =
+    let k = c.loop-place.invariant in
     let count = ap length c.as_slice-entry-items.ensures.value ∙ c.requires.count in
-    let i = inside c.args.band.now.width c.args.band.now.height c.loop-entry.entry-index _ _ (omega (arith, c.loop-entry-test.true)) k.column k.row in
-    let l = taken_length _ _ _ c.as_slice-entry-items.ensures.value c.loop-entry-test.true in
-    let n = next_index _ _ _ _ _ i in
+    let i = inside c.args.band.now.width c.args.band.now.height c.loop-place.place _ _ (omega (arith, c.loop-place-test.true)) refl refl in
+    let l = taken_length _ _ _ c.as_slice-entry-items.ensures.value c.loop-place-test.true in
     record {
-      kept = rw (taken_push _ _ c.loop-entry.entry-index (record { included = false; zero_planes = 0; passes = 0; len = 0 }) c.as_slice-entry-items.ensures.value c.loop-entry-test.true)
-          (kept_more _ _ _ _ c.loop-entry.place.x c.loop-entry.place.y _ _ _ _ _ (k.column ∙ ap (λ r. r % c.args.band.now.width) (sym l)) (k.row ∙ ap (λ r. r / c.args.band.now.width) (sym l))
-          (omega (arith, i.column, c.requires.width)) (omega (arith, i.row, c.requires.height)) c.quarter-quarter.ensures.below k.four c.quarter-quarter.ensures.node k.kept
+      kept = rw (taken_push _ _ c.loop-place.place (record { included = false; zero_planes = 0; passes = 0; len = 0 }) c.as_slice-entry-items.ensures.value c.loop-place-test.true)
+          (kept_more _ _ _ _ (c.loop-place.place % c.args.band.now.width) (c.loop-place.place / c.args.band.now.width) _ _ _ _ _
+          (ap (λ r. r % c.args.band.now.width) (sym l)) (ap (λ r. r / c.args.band.now.width) (sym l))
+          (omega (arith, i.column, c.requires.width)) (omega (arith, i.row, c.requires.height)) c.quarter_of-quarter.ensures.below k.four c.quarter_of-quarter.ensures.node k.kept
           c.with-top.ensures.included c.with-top.ensures.zero_planes c.with.ensures.included c.with.ensures.zero_planes);
       four = length-set _ _ _ ∙ k.four;
-      column = c.next-place.ensures.column ∙ ap (λ r. r % c.args.band.now.width) n;
-      row = c.next-place.ensures.row ∙ ap (λ r. r / c.args.band.now.width) n;
     }
 
 pub returns-then-side-le1 : goal.returns-then-side-le1
@@ -34,8 +29,8 @@ returns-then-side-le1 c = above_zero c.args.band.now (level_zero _ _ (omega (ari
 
 pub returns-then-side-le2 : goal.returns-then-side-le2
 returns-then-side-le2 c = above_one c.args.band.now _ _ (level_one _ _ (omega (arith, c.max-side.ensures, c.if-side-le1.false)) (omega (arith, c.max-side.ensures, c.if-side-le2.true)))
-    (kept_all c.args.band.now _ _ _ _ c.as_slice-entry-items.ensures.value c.loop-entry-test.false c.loop-entry.invariant.kept)
+    (kept_all c.args.band.now _ _ _ _ c.as_slice-entry-items.ensures.value c.loop-place-test.false c.loop-place.invariant.kept)
 
 pub returns : goal.returns
 returns c = above_two c.args.band.now _ _ (level_two _ _ (omega (arith, c.max-side.ensures, c.if-side-le2.false)))
-    (kept_all c.args.band.now _ _ _ _ c.as_slice-entry-items.ensures.value c.loop-entry-test.false c.loop-entry.invariant.kept)
+    (kept_all c.args.band.now _ _ _ _ c.as_slice-entry-items.ensures.value c.loop-place-test.false c.loop-place.invariant.kept)

@@ -1,4 +1,4 @@
-use Rattle.std.proofs.Common.{false, ◌/◌, ◌%◌, [], ◌++◌, map, take, append_assoc, sym, ap, ◌∙◌, subst, arith}
+use Rattle.std.proofs.Common.{false, refl, ◌/◌, ◌%◌, [], ◌++◌, map, take, append_assoc, sym, ap, ◌∙◌, subst, arith}
 use Rattle.std.proofs.Math.Nat.{zero-mod, zero-div}
 use Rattle.std.proofs.lemmas.List.{append-nil}
 use Rattle.packet_headers.specs.Words.{blocks_bits}
@@ -10,47 +10,42 @@ use Rattle.packet_headers.proofs.BandLemmas.{next_index}
 use Rattle.packet_headers.proofs.EntryLemmas.{entry_at}
 use Rattle.packet_headers.proofs.band.put_band.Goals as goal
 
-pub loop-entry-init : goal.loop-entry-init
+pub loop-place-init : goal.loop-place-init
 unfolding blocks_bits
-loop-entry-init g c = record {
+loop-place-init g c = record {
   marks = c.fresh_marks-marks.ensures.stand;
   visited_order = c.fresh_marks-marks.ensures.visited;
   beyond_order = c.fresh_marks-marks.ensures.beyond;
   bits = λ bits h. subst (λ r. g.S.BitSink.StandsFor c.args.out.now r) (sym (append-nil bits)) h;
   few = omega arith;
-  column = sym (zero-mod c.args.band.now.width);
-  row = sym (zero-div c.args.band.now.width);
 }
 
 pub put_block-requires-clause-top : goal.put_block-requires-clause-top
 put_block-requires-clause-top g c =
-    let a = entry_at c.args.band.now _ c.loop-entry.entry-index _ _ _ (record { included = false; zero_planes = 0; passes = 0; len = 0 }) _ _ c.requires.band
-    c.as_slice-entry-items.ensures.value c.loop-entry-test.true c.loop-entry.invariant.column c.loop-entry.invariant.row c.quarter-quarter.ensures.node c.quarter-quarter.ensures.below c.above_of-above.ensures in
+    let a = entry_at c.args.band.now _ c.loop-place.place (c.loop-place.place % c.args.band.now.width) (c.loop-place.place / c.args.band.now.width) _ (record { included = false; zero_planes = 0; passes = 0; len = 0 }) _ _ c.requires.band
+    c.as_slice-entry-items.ensures.value c.loop-place-test.true refl refl c.quarter_of-quarter.ensures.node c.quarter_of-quarter.ensures.below c.above_of-above.ensures in
     a.rises.top_le
 
 pub put_block-requires-clause-middle : goal.put_block-requires-clause-middle
 put_block-requires-clause-middle g c =
-    let a = entry_at c.args.band.now _ c.loop-entry.entry-index _ _ _ (record { included = false; zero_planes = 0; passes = 0; len = 0 }) _ _ c.requires.band
-    c.as_slice-entry-items.ensures.value c.loop-entry-test.true c.loop-entry.invariant.column c.loop-entry.invariant.row c.quarter-quarter.ensures.node c.quarter-quarter.ensures.below c.above_of-above.ensures in
+    let a = entry_at c.args.band.now _ c.loop-place.place (c.loop-place.place % c.args.band.now.width) (c.loop-place.place / c.args.band.now.width) _ (record { included = false; zero_planes = 0; passes = 0; len = 0 }) _ _ c.requires.band
+    c.as_slice-entry-items.ensures.value c.loop-place-test.true refl refl c.quarter_of-quarter.ensures.node c.quarter_of-quarter.ensures.below c.above_of-above.ensures in
     a.rises.middle_le
 
-pub loop-entry-preserved : goal.loop-entry-preserved
-loop-entry-preserved g c =
+pub loop-place-preserved : goal.loop-place-preserved
+loop-place-preserved g c =
     let words = written_trees c.args.band.now in
-    let k = c.loop-entry.invariant in
-    let a = entry_at c.args.band.now _ c.loop-entry.entry-index _ _ _ (record { included = false; zero_planes = 0; passes = 0; len = 0 }) _ _ c.requires.band
-    c.as_slice-entry-items.ensures.value c.loop-entry-test.true c.loop-entry.invariant.column c.loop-entry.invariant.row c.quarter-quarter.ensures.node c.quarter-quarter.ensures.below c.above_of-above.ensures in
-    let push = written_push c.args.band.now.entries.items _ c.loop-entry.entry-index (record { included = false; zero_planes = 0; passes = 0; len = 0 }) c.as_slice-entry-items.ensures.value c.loop-entry-test.true in
-    let n = next_index _ _ _ _ _ a.inside in
-    let own = entry_bits words _ _ _ _ _ _ _ _ _ c.quarter-quarter.ensures.node c.quarter-quarter.ensures.below a.at c.above_of-above.ensures k.marks a.rises a.includes a.zero_planes a.fresh a.zero_fresh in
+    let k = c.loop-place.invariant in
+    let a = entry_at c.args.band.now _ c.loop-place.place (c.loop-place.place % c.args.band.now.width) (c.loop-place.place / c.args.band.now.width) _ (record { included = false; zero_planes = 0; passes = 0; len = 0 }) _ _ c.requires.band
+    c.as_slice-entry-items.ensures.value c.loop-place-test.true refl refl c.quarter_of-quarter.ensures.node c.quarter_of-quarter.ensures.below c.above_of-above.ensures in
+    let push = written_push c.args.band.now.entries.items _ c.loop-place.place (record { included = false; zero_planes = 0; passes = 0; len = 0 }) c.as_slice-entry-items.ensures.value c.loop-place-test.true in
+    let own = entry_bits words _ _ _ _ _ _ _ _ _ c.quarter_of-quarter.ensures.node c.quarter_of-quarter.ensures.below a.at c.above_of-above.ensures k.marks a.rises a.includes a.zero_planes a.fresh a.zero_fresh in
     record {
-      marks = rw push (marks_further words _ _ _ _ _ (omega (arith, a.inside.column, c.requires.band.width)) (omega (arith, a.inside.row, c.requires.band.height)) c.quarter-quarter.ensures.node a.at a.rises.below
+      marks = rw push (marks_further words _ _ _ _ _ (omega (arith, a.inside.column, c.requires.band.width)) (omega (arith, a.inside.row, c.requires.band.height)) c.quarter_of-quarter.ensures.node a.at a.rises.below
           _ _ _ _ k.marks c.put_block.ensures.visited c.put_block.ensures.beyond);
       visited_order = λ q h m. c.put_block.ensures.visited.top;
       beyond_order = order_kept _ _ _ _ c.put_block.ensures.beyond k.beyond_order;
-      bits = λ bits h. rw (push, blocks_bits-push) (subst (λ r. g.S.BitSink.StandsFor c.put_block.new.out r) (ap (λ r. (bits ++ blocks_bits words [] (map written_block (take c.loop-entry.entry-index c.args.band.now.entries.items))) ++ r) own ∙ append_assoc bits _ _)
+      bits = λ bits h. rw (push, blocks_bits-push) (subst (λ r. g.S.BitSink.StandsFor c.put_block.new.out r) (ap (λ r. (bits ++ blocks_bits words [] (map written_block (take c.loop-place.place c.args.band.now.entries.items))) ++ r) own ∙ append_assoc bits _ _)
           (c.put_block.ensures.bits _ (k.bits bits h)));
       few = omega (arith, c.put_block.ensures.few, k.few);
-      column = c.next-place.ensures.column ∙ ap (λ r. r % c.args.band.now.width) n;
-      row = c.next-place.ensures.row ∙ ap (λ r. r / c.args.band.now.width) n;
     }

@@ -4,14 +4,12 @@ use Rattle.packet_headers.specs.Written.{written_block, written_trees}
 use Rattle.packet_headers.specs.WriterState.{MarksStand, TopFirst}
 use Rattle.packet_headers.proofs.band.put_band.Given as goal
 
-abbrev pub invariant-loop-entry : goal.invariant-loop-entry
-invariant-loop-entry g l = record {
-  marks : MarksStand (written_trees l.band) (map written_block (take l.entry-index l.band.entries.items)) l.marks.visited l.marks.beyond;
+abbrev pub invariant-loop-place : goal.invariant-loop-place
+invariant-loop-place g l = record {
+  marks : MarksStand (written_trees l.band) (map written_block (take l.place l.band.entries.items)) l.marks.visited l.marks.beyond;
   visited_order : TopFirst l.marks.visited;
   beyond_order : TopFirst l.marks.beyond;
   bits : (bits : List Bool) → g.S.BitSink.StandsFor l.initial.out bits
-      → g.S.BitSink.StandsFor l.out (bits ++ blocks_bits (written_trees l.band) [] (map written_block (take l.entry-index l.band.entries.items)));
-  few : g.S.BitSink.bit_count l.out ≤ g.S.BitSink.bit_count l.initial.out + 70 * l.entry-index;
-  column : l.place.x ≡ l.entry-index % l.band.width;
-  row : l.place.y ≡ l.entry-index / l.band.width;
+      → g.S.BitSink.StandsFor l.out (bits ++ blocks_bits (written_trees l.band) [] (map written_block (take l.place l.band.entries.items)));
+  few : g.S.BitSink.bit_count l.out ≤ g.S.BitSink.bit_count l.initial.out + 70 * l.place;
 }
