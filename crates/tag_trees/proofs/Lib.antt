@@ -10,3 +10,4 @@ pub mod TreePaths
 pub mod UptoLemmas
 pub mod LeastLemmas
 pub mod ReaderLemmas
+pub mod WordLemmas

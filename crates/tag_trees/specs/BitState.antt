@@ -1,5 +1,5 @@
 -- What a writer and a reader of a header's bits stand for.
-use Rattle.std.specs.Prelude.{◌≡◌, ℕ, ◌+◌, ◌-◌, ◌^◌, ◌<◌, ◌≤◌, ◌==◌, Bool, false, List, ◌++◌, length, take, drop, ◌⊎◌}
+use Rattle.std.specs.Prelude.{◌≡◌, ℕ, ◌+◌, ◌-◌, ◌/◌, ◌%◌, ◌^◌, ◌<◌, ◌≤◌, ◌==◌, Bool, false, List, ◌++◌, length, take, drop, ◌⊎◌}
 use Rattle.tag_trees.specs.Bits.{number, width_behind, useful, IsStuffed, ends_in_ff}
 use Rattle.tag_trees.specs.Stuffing.{supply_from}
 
@@ -31,6 +31,13 @@ pub record Counts (whole part filled width all : ℕ) (bits : List Bool) : Type 
   pub whole_are : length bytes ≡ whole
   pub all_are : length bits ≡ all
   pub spills : Spills bytes part filled width bits
+
+-- none of the four bytes of a word is FF
+pub record HasNoFf (word : ℕ) : Type 0 where
+  pub first : word / 2 ^ 24 % 2 ^ 8 ≡ 255 → ⊥
+  pub second : word / 2 ^ 16 % 2 ^ 8 ≡ 255 → ⊥
+  pub third : word / 2 ^ 8 % 2 ^ 8 ≡ 255 → ⊥
+  pub last : word / 2 ^ 0 % 2 ^ 8 ≡ 255 → ⊥
 
 -- all but the last `left` bits of the first `opened` bytes
 abbrev pub opened_bits : List ℕ → ℕ → ℕ → List Bool

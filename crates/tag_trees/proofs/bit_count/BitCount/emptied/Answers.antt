@@ -1,19 +1,7 @@
-use Rattle.std.proofs.Common.{◌∙◌, arith}
+use Rattle.std.proofs.Common.{◌≡◌, ℕ, sym, ap, ◌∙◌, arith}
 use Rattle.tag_trees.proofs.BitLemmas.{width_le, seven_le}
-use Rattle.tag_trees.proofs.SpillLemmas.{join_below, byte_fits, left_below, counts_more, counts_byte}
-use Rattle.tag_trees.proofs.bit_count.BitCountBitSink.put_number.Goals as goal
-
-pub loop-full-init : goal.loop-full-init
-loop-full-init c =
-    let before = c.args.self.now in
-    record {
-      counts = λ bits h. rw c.held_with-held.ensures (counts_more _ _ _ _ _ _ _ _ h c.requires.value c.requires.room);
-      below = rw c.held_with-held.ensures (join_below _ _ _ _ c.args.self.now.below c.requires.value);
-      few = omega (arith, c.args.self.now.room, c.args.self.now.most, c.requires.width);
-      least = c.args.self.now.least;
-      most = c.args.self.now.most;
-      whole_few = omega (arith, c.args.self.now.whole_few);
-    }
+use Rattle.tag_trees.proofs.SpillLemmas.{byte_fits, left_below, counts_byte}
+use Rattle.tag_trees.proofs.bit_count.BitCount.emptied.Goals as goal
 
 pub high_byte-byte-requires-clause-fits : goal.high_byte-byte-requires-clause-fits
 high_byte-byte-requires-clause-fits c = byte_fits _ _ _ _ c.loop-full.invariant.below (omega arith) c.loop-full.invariant.most
