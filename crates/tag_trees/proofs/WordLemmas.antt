@@ -1,6 +1,6 @@
 -- Four bytes at a time.
-use Rattle.std.proofs.Common.{◌≡◌, ℕ, suc, zero, ◌+◌, ◌-◌, ◌*◌, ◌/◌, ◌%◌, ◌^◌, ◌<◌, ◌≤◌, Bool, true, false, List, [], ◌∷◌, ◌++◌, length, refl, sym, ap, subst, ◌∙◌, arith, eqb}
-use Rattle.std.specs.Prelude.{◌==◌, bit_and}
+use Rattle.std.proofs.Common.{◌≡◌, ℕ, ◌+◌, ◌*◌, ◌/◌, ◌%◌, ◌^◌, ◌<◌, ◌≤◌, Bool, false, List, refl, sym, ap, subst, ◌∙◌, arith, eqb}
+use Rattle.std.specs.Prelude.{bit_and}
 use Rattle.std.proofs.lemmas.Bool.{ne_eqb}
 use Rattle.std.proofs.lemmas.Nat.{pow-add, shr-shr, mod-pow-add, field_of, and_block, and_le_r, mod-mul-add}
 use Rattle.std.proofs.Math.Nat.{mod-lt, mod-eq_of_lt, one-le-pow, div-lt_iff_lt-mul}
@@ -19,7 +19,7 @@ test_digit x a b c d h =
     let one : bit_and (x * 2 ^ 8 + d) (a * 2 ^ 8 + 127) ≡ bit_and x a * 2 ^ 8 + bit_and d 127 = and_block 8 x a d 127 h (omega arith) in
     let two : bit_and x a * 2 ^ 8 + bit_and d 127 + (b * 2 ^ 8 + 1) ≡ (bit_and x a + b) * 2 ^ 8 + (bit_and d 127 + 1) = omega arith in
     let three : bit_and ((bit_and x a + b) * 2 ^ 8 + (bit_and d 127 + 1)) (x * 2 ^ 8 + d) ≡ bit_and (bit_and x a + b) x * 2 ^ 8 + bit_and (bit_and d 127 + 1) d =
-        and_block 8 (bit_and x a + b) x (bit_and d 127 + 1) d (omega arith) h in
+    and_block 8 (bit_and x a + b) x (bit_and d 127 + 1) d (omega arith) h in
     let most = and_le_r (bit_and d 127 + 1) d in
     let four = and_block 8 (bit_and (bit_and x a + b) x) c (bit_and (bit_and d 127 + 1) d) 128 (omega arith) (omega arith) in
     ap (λ k. bit_and (bit_and (k + (b * 2 ^ 8 + 1)) (x * 2 ^ 8 + d)) (c * 2 ^ 8 + 128)) one
@@ -81,7 +81,7 @@ counts_word whole held filled all left bits s e h =
     let all_of : filled ≡ 8 + (8 + (8 + (8 + left))) = omega arith in
     let held_is : held ≡ held % 2 ^ (8 + (8 + (8 + (8 + left)))) = sym (mod-eq_of_lt (rw all_of at below)) in
     let first : Counts whole (held % 2 ^ (8 + (8 + (8 + (8 + left))))) (8 + (8 + (8 + (8 + left)))) 8 all bits =
-        subst (λ n. Counts whole n (8 + (8 + (8 + (8 + left)))) 8 all bits) held_is (subst (λ n. Counts whole held n 8 all bits) all_of s) in
+    subst (λ n. Counts whole n (8 + (8 + (8 + (8 + left)))) 8 all bits) held_is (subst (λ n. Counts whole held n 8 all bits) all_of s) in
     let a = digit_step whole held (8 + (8 + (8 + left))) all bits first (digit_at held left 24 (8 + (8 + (8 + left))) (omega arith) h.first) in
     let b = digit_step (whole + 1) held (8 + (8 + left)) all bits a (digit_at held left 16 (8 + (8 + left)) (omega arith) h.second) in
     let c = digit_step (whole + 1 + 1) held (8 + left) all bits b (digit_at held left 8 (8 + left) (omega arith) h.third) in

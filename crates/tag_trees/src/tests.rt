@@ -83,3 +83,25 @@ fn counts_ones(rt: HostRuntime) {
     // 10111111 00000
     assert_eq!(rt; out.finish().as_slice(), [0xbf, 0x00].as_slice());
 }
+
+#[test]
+fn counts_four_bytes_at_a_time(rt: HostRuntime) {
+    let mut count = BitCount::new();
+    count.put_number(40, 0x01_0203_0405);
+    assert_eq!(rt; count.finish(), 5);
+
+    // FF 7F FF 7F FF 60
+    count = BitCount::new();
+    count.put_number(40, 0xff_ffff_ffff);
+    assert_eq!(rt; count.finish(), 6);
+
+    // 01 02 FF 02 00
+    count = BitCount::new();
+    count.put_number(32, 0x0102_ff04);
+    assert_eq!(rt; count.finish(), 5);
+
+    // 01 02 03 FF 40, as the last bit stands behind a stuffed 0
+    count = BitCount::new();
+    count.put_number(33, 0x0204_07ff);
+    assert_eq!(rt; count.finish(), 5);
+}

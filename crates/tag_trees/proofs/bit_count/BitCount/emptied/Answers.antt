@@ -1,4 +1,4 @@
-use Rattle.std.proofs.Common.{◌≡◌, ℕ, sym, ap, ◌∙◌, arith}
+use Rattle.std.proofs.Common.{◌∙◌, arith}
 use Rattle.tag_trees.proofs.BitLemmas.{width_le, seven_le}
 use Rattle.tag_trees.proofs.SpillLemmas.{byte_fits, left_below, counts_byte}
 use Rattle.tag_trees.proofs.bit_count.BitCount.emptied.Goals as goal

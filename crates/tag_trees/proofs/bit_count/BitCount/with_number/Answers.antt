@@ -1,4 +1,4 @@
-use Rattle.std.proofs.Common.{◌+◌, ◌*◌, ◌^◌, ◌<◌, ◌≤◌, ◌++◌, arith}
+use Rattle.std.proofs.Common.{arith}
 use Rattle.tag_trees.proofs.SpillLemmas.{join_below, counts_more}
 use Rattle.tag_trees.proofs.WordLemmas.{number_small, number_whole}
 use Rattle.tag_trees.proofs.bit_count.BitCount.with_number.Goals as goal
