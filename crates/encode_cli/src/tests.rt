@@ -219,15 +219,13 @@ fn lengths_of_empty_codestreams(rt: HostRuntime) -> Result<(), Fail> {
     Ok(())
 }
 
-#[test]
-fn folder_to_folder(rt: HostRuntime) -> Result<(), Fail> {
+/// Runs over the folders `src` and `dst` below a folder.
+fn run_below(rt: &HostRuntime, folder: &str) -> Result<(u8, MemoryReport), Fail> {
     let alloc = rt.alloc();
-    let _ = fs::remove_dir_all(&rt, "test-run");
-    fs::create_dir_all(&rt, "test-run/src")?;
-    fs::write(&rt, "test-run/src/a.ppm", GREY)?;
-    let source = String::from_str(alloc, "test-run/src")?;
+    let source = format!(in alloc; "{folder}/src")?;
+    let target = format!(in alloc; "{folder}/dst")?;
     let mut frames = FolderFrames::new(rt.clone()?, source, String::from_str(alloc, ".ppm")?);
-    let mut outputs = FolderOutputs::new(rt.clone()?, String::from_str(alloc, "test-run/dst")?);
+    let mut outputs = FolderOutputs::new(rt.clone()?, target);
     let mut report = MemoryReport::new(alloc, Vec::new(alloc), 1000);
     let words = words(alloc, COMMAND)?;
     let status = run(
@@ -237,11 +235,36 @@ fn folder_to_folder(rt: HostRuntime) -> Result<(), Fail> {
         &mut outputs,
         &mut report,
     );
+    Ok((status, report))
+}
+
+#[test]
+fn folder_to_folder(rt: HostRuntime) -> Result<(), Fail> {
+    let alloc = rt.alloc();
+    let _ = fs::remove_dir_all(&rt, "test-run");
+    fs::create_dir_all(&rt, "test-run/src")?;
+    fs::write(&rt, "test-run/src/a.ppm", GREY)?;
+    let (status, report) = run_below(&rt, "test-run")?;
     assert_eq!(rt; status, 0);
     let written = fs::read(&rt, "test-run/dst/a.j2c")?;
     assert!(rt; written.as_slice() == CODESTREAM);
     let said = format!(in alloc; "ok a {BUDGETS} passes=0 empty=0 distortion=0\n")?;
     assert!(rt; report.bytes() == said.as_bytes());
     fs::remove_dir_all(&rt, "test-run")?;
+    Ok(())
+}
+
+#[test]
+fn an_output_that_cant_have_its_name_ends_a_run(rt: HostRuntime) -> Result<(), Fail> {
+    let _ = fs::remove_dir_all(&rt, "test-taken");
+    fs::create_dir_all(&rt, "test-taken/dst/a.j2c/taken")?;
+    fs::create_dir_all(&rt, "test-taken/src")?;
+    fs::write(&rt, "test-taken/src/a.ppm", GREY)?;
+    let (status, report) = run_below(&rt, "test-taken")?;
+    assert_eq!(rt; status, 4);
+    assert!(rt; report.bytes().is_empty());
+    let unfinished = fs::read(&rt, "test-taken/dst/a.j2c.part")?;
+    assert!(rt; unfinished.as_slice() == CODESTREAM);
+    fs::remove_dir_all(&rt, "test-taken")?;
     Ok(())
 }
