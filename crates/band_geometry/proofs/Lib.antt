@@ -3,4 +3,5 @@ pub mod ListedLemmas
 pub mod NumberLemmas
 pub mod PrecinctLemmas
 pub mod SideLemmas
+pub mod StandardLemmas
 pub mod TilingLemmas

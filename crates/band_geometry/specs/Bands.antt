@@ -56,6 +56,20 @@ band_of g r HH = record {
   height = res_height g r - res_height g (r - 1);
 }
 
+-- the offsets of equation B-15 (Table B.1), xob and yob: 1 where the band is high-pass along a row, and
+-- where it is high-pass along a column
+abbrev pub offset_across : Orient → ℕ
+offset_across LL = 0
+offset_across HL = 1
+offset_across LH = 0
+offset_across HH = 1
+
+abbrev pub offset_down : Orient → ℕ
+offset_down LL = 0
+offset_down HL = 0
+offset_down LH = 1
+offset_down HH = 1
+
 -- how many code blocks a band has across and down: they are 32 by 32, from the band's corner on
 abbrev pub block_columns : Geometry → ℕ → Orient → ℕ
 block_columns g r o = div_up (band_of g r o).width 32

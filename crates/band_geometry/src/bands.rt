@@ -8,7 +8,8 @@ use cine_nums::Orient;
 impl Geometry {
     ghost use Rattle.band_geometry.specs.Bands.{HasBand, band_of, IsBlock, block_of, IsPlaceIn, HoldsPlace};
     ghost use Rattle.band_geometry.specs.Bands.{precinct_blocks_of, IsInRange, block_columns, block_rows};
-    ghost use Rattle.band_geometry.specs.Sizes.{precinct_count};
+    ghost use Rattle.band_geometry.specs.Bands.{offset_across, offset_down};
+    ghost use Rattle.band_geometry.specs.Sizes.{precinct_count, band_level, band_side};
     ghost use Rattle.band_geometry.specs.declared.places.BlockId.{BlockId};
 
     /// Where a band stands in the transformed plane (ISO/IEC 15444-1, B.5): the bands HL, LH and HH
@@ -16,6 +17,11 @@ impl Geometry {
     pub fn band(&self, res: u8, orient: Orient) -> Rect
         requires { HasBand self.now res orient }
         ensures value { result ≡ band_of self.now res orient }
+        // `band_of` takes the resolution below away; equation B-15 gives the same size in one division.
+        ensures standard_width { result.width ≡
+            band_side (band_level self.now.levels res) self.now.width (offset_across orient) }
+        ensures standard_height { result.height ≡
+            band_side (band_level self.now.levels res) self.now.height (offset_down orient) }
         // Each place of the band lies in a block, and by `block` in one alone.
         ensures covered { (c x y : ℕ) → c < 3 → IsPlaceIn result x y →
             (id : BlockId) × HoldsPlace self.now c res orient x y id }
