@@ -8,9 +8,9 @@ use Rattle.std.proofs.lemmas.List.{append-nil}
 use Rattle.std.proofs.lemmas.List.Elements.{All-cons, All-nil}
 use Rattle.pnm_frames.specs.declared.limits.SizeLimits.{SizeLimits}
 use Rattle.pnm_frames.specs.Fault.{Fault, ◌>>=◌, BadHeader, HeaderTooLong, NotPpm, WidthOutOfRange, HeightOutOfRange, WrongMaxval}
-use Rattle.pnm_frames.specs.Picture.{Picture, raster}
+use Rattle.pnm_frames.specs.Picture.{Picture, IsWithin, raster}
 use Rattle.pnm_frames.specs.Grammar.{is_white, value_from, IsGap, IsNumeral, Parts, header, header_limit, IsHeader, Spells}
-use Rattle.pnm_frames.specs.Reading.{Read, byte_at, magic_at, white_at, digits_at, number_at, ranged_at, or_fault, header_at, ended}
+use Rattle.pnm_frames.specs.Reading.{Read, byte_at, magic_at, white_at, digits_at, number_at, ranged_at, or_fault, header_at, samples_at, plane_of, ended, frame_of}
 
 -- which way a choice went
 chosen : {A : Type 0} (b : Bool) (x y z : A) → cond b x y ≡ z → ((b ≡ true) × (x ≡ z)) ⊎ ((b ≡ false) × (y ≡ z))
@@ -312,7 +312,8 @@ step2 limits width = or_fault WidthOutOfRange width.0 >>= step3 limits width
 abbrev step1 : SizeLimits → Mark → Result Sizes Fault
 step1 limits magic = ranged_at 1 limits.width magic.1 magic.2 >>= step2 limits
 
-pub record HeaderRead (bytes : List ℕ) (read : Sizes) : Type 0 where
+pub record HeaderRead (limits : SizeLimits) (bytes : List ℕ) (read : Sizes) : Type 0 where
+  pub sizes : IsWithin limits read.0.0 read.0.1
   pub parts : Parts
   pub is_header : IsHeader parts read.0.0 read.0.1
   pub whole : bytes ≡ header parts ++ read.2
@@ -320,7 +321,7 @@ pub record HeaderRead (bytes : List ℕ) (read : Sizes) : Type 0 where
 gap-of : (b : ℕ) (gap : List ℕ) → is_white b ≡ true → All IsWhite gap → IsGap (b ∷ gap)
 gap-of b gap first others = record { some = omega arith; white = All-cons IsWhite b gap first others }
 
-pub header-found : (limits : SizeLimits) (bytes : List ℕ) (read : Sizes) → header_at limits bytes ≡ Ok read → HeaderRead bytes read
+pub header-found : (limits : SizeLimits) (bytes : List ℕ) (read : Sizes) → header_at limits bytes ≡ Ok read → HeaderRead limits bytes read
 unfolding header_at
 header-found limits bytes read e =
     let a = bind_ok (magic_at 0 bytes) (step1 limits) read e in
@@ -334,13 +335,15 @@ header-found limits bytes read e =
     let width = ranged-found 1 limits.width a.0.1 a.0.2 w.0 b.0 b.1 (some-of WidthOutOfRange b.0.0 w.0 w.1) in
     let height = ranged-found 1 limits.height b.0.1 b.0.2 h.0 c.0 c.1 (some-of HeightOutOfRange c.0.0 h.0 h.1) in
     let maxval = ranged-found 4095 4095 c.0.1 c.0.2 m.0 d.0 d.1 (some-of WrongMaxval d.0.0 m.0 m.1) in
-    put magic.gap w.0 h.0 m.0 a.0.1 b.0.1 c.0.1 d.0.1 a.0.2 b.0.2 c.0.2 d.0.2 bytes read magic.white magic.parts magic.place width.0 height.0 maxval.0
+    let sizes : IsWithin limits w.0 h.0 = record { some_width = width.1; width_in_limits = width.2; some_height = height.1; height_in_limits = height.2 } in
+    put magic.gap w.0 h.0 m.0 a.0.1 b.0.1 c.0.1 d.0.1 a.0.2 b.0.2 c.0.2 d.0.2 bytes read sizes magic.white magic.parts magic.place width.0 height.0 maxval.0
     (omega (arith, maxval.1, maxval.2)) (value-is ((w.0, h.0), d.0.1, d.0.2) read m.2)
   where
-    put : (g w h m at1 at2 at3 at4 : ℕ) (r1 r2 r3 r4 bytes : List ℕ) (read : Sizes) → is_white g ≡ true → bytes ≡ 80 ∷ 54 ∷ g ∷ r1 → at1 ≡ 3
-        → NumberRead at1 r1 (w, at2, r2) → NumberRead at2 r2 (h, at3, r3) → NumberRead at3 r3 (m, at4, r4) → m ≡ 4095 → (let s : Sizes = ((w, h), at4, r4) in s) ≡ read → HeaderRead bytes read
-    put g w h m at1 at2 at3 at4 r1 r2 r3 r4 bytes read white magic three width height maxval is same =
-        subst (λ (s : Sizes). HeaderRead bytes s) same (record {
+    put : (g w h m at1 at2 at3 at4 : ℕ) (r1 r2 r3 r4 bytes : List ℕ) (read : Sizes) → IsWithin limits w h → is_white g ≡ true → bytes ≡ 80 ∷ 54 ∷ g ∷ r1 → at1 ≡ 3
+        → NumberRead at1 r1 (w, at2, r2) → NumberRead at2 r2 (h, at3, r3) → NumberRead at3 r3 (m, at4, r4) → m ≡ 4095 → (let s : Sizes = ((w, h), at4, r4) in s) ≡ read → HeaderRead limits bytes read
+    put g w h m at1 at2 at3 at4 r1 r2 r3 r4 bytes read sizes white magic three width height maxval is same =
+        subst (λ (s : Sizes). HeaderRead limits bytes s) same (record {
+          sizes = sizes;
           parts = record { gap1 = g ∷ width.gap; width = width.digits; gap2 = width.end ∷ height.gap; height = height.digits; gap3 = height.end ∷ maxval.gap; maxval = maxval.digits; end = maxval.end };
           is_header = record {
             gap1 = gap-of g width.gap white width.white;
@@ -378,3 +381,36 @@ file-found limits p bytes w h at front rest e wide tall parts last =
     let head = header-found limits bytes ((w, h), at, front) e in
     let behind : front ≡ raster p = parts ∙ ap (λ (t : List ℕ). raster p ++ t) (at-end rest last) ∙ append-nil (raster p) in
     (head.parts, rw (wide, tall) head.is_header, head.whole ∙ ap (λ (t : List ℕ). header head.parts ++ t) behind)
+
+-- ---- the sizes of a picture that is read
+
+abbrev Samples : Type 0
+Samples = List ℕ × List ℕ
+
+abbrev picture_with : Sizes → Samples → Picture
+picture_with header samples = record {
+  width = header.0.0;
+  height = header.0.1;
+  x = plane_of (λ x y z. x) samples.0;
+  y = plane_of (λ x y z. y) samples.0;
+  z = plane_of (λ x y z. z) samples.0;
+}
+
+abbrev last_step : Sizes → Samples → Result Picture Fault
+last_step header samples = ended (picture_with header samples) samples.1
+
+abbrev samples_step : Sizes → Result Picture Fault
+samples_step header = samples_at (3 * (header.0.0 * header.0.1)) header.1 header.2 >>= last_step header
+
+ended-value : {A : Type 0} (x y : A) (rest : List ℕ) → ended x rest ≡ Ok y → x ≡ y
+ended-value x y [] e = value-is x y e
+ended-value x y (b ∷ rest) e = absurd cc
+
+-- a picture that is read has sides within the limits
+pub frame-sizes : (limits : SizeLimits) (bytes : List ℕ) (p : Picture) → frame_of limits bytes ≡ Ok p → IsWithin limits p.width p.height
+unfolding frame_of
+frame-sizes limits bytes p e =
+    let head = bind_ok (header_at limits bytes) samples_step p e in
+    let samples = bind_ok (samples_at (3 * (head.0.0.0 * head.0.0.1)) head.0.1 head.0.2) (last_step head.0) p head.2 in
+    let same : picture_with head.0 samples.0 ≡ p = ended-value (picture_with head.0 samples.0) p samples.0.1 samples.2 in
+    subst (λ (q : Picture). IsWithin limits q.width q.height) same (header-found limits bytes head.0 head.1).sizes
