@@ -36,4 +36,5 @@ pub use encoder::Encoder;
 pub use ended::{EndedCode, ended_len, ending};
 pub use laws::{code_form, inversion, register_bounds, weights};
 pub use mark::Mark;
+pub use renormalise::THREE_QUARTERS;
 pub use states::{StateRow, state_row};

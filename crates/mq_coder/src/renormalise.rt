@@ -6,7 +6,8 @@ ghost use Rattle.mq_coder.specs.Registers.{coding_of};
 use crate::byte_out::byte_out;
 use crate::registers::Registers;
 
-// Three quarters of the unit of A: between two symbols A is at least this.
+/// Three quarters of the unit of the register A, the least size of the interval between two symbols
+/// (ISO/IEC 15444-1, C.2.2).
 pub const THREE_QUARTERS: u32 = 0x8000;
 
 // Doubles A and C, and puts a byte out where that was the last shift before it.

@@ -4,8 +4,8 @@ ghost use Rattle.std.specs.Prelude.{◌≡◌, ℕ, ◌+◌, ◌-◌, ◌*◌, �
 use crate::byte_in::{byte_at, byte_in};
 use crate::parts::part_of;
 use crate::registers::Registers;
-use crate::renormalise::{THREE_QUARTERS, first_c, renormalise};
-use mq_coder::Contexts;
+use crate::renormalise::{first_c, renormalise};
+use mq_coder::{Contexts, THREE_QUARTERS};
 
 /// A decoder of ISO/IEC 15444-1, Annex C.3, over a byte string.
 #[derive(Drop)]

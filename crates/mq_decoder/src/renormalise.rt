@@ -5,9 +5,7 @@ ghost use Rattle.mq_decoder.specs.Registers.{HoldsAt};
 
 use crate::byte_in::byte_in;
 use crate::registers::Registers;
-
-/// Three quarters of the unit of A: between two decisions A is at least this.
-pub const THREE_QUARTERS: u32 = 0x8000;
+use mq_coder::THREE_QUARTERS;
 
 /// C at the start: two bytes, 7 of whose bits are shifted up, cut to three quarters of 2^16.
 #[inline(always)]

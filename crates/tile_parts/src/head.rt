@@ -9,12 +9,7 @@ ghost use Rattle.tile_parts.specs.Head.{part_head_of};
 pub fn part_head(length: u32, index: u8, count: u8) -> [u8; 14]
     ensures { result ≡ part_head_of length index count }
 {
-    let psot = [
-        (length >> 24) as u8,
-        (length >> 16 & 0xFF) as u8,
-        (length >> 8 & 0xFF) as u8,
-        (length & 0xFF) as u8,
-    ];
+    let psot = length.to_be_bytes();
     [
         0xFF, 0x90, 0x00, 0x0A, 0x00, 0x00, psot[0], psot[1], psot[2], psot[3], index, count, 0xFF,
         0x93,
