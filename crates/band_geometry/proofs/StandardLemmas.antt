@@ -4,9 +4,11 @@ use Rattle.std.proofs.Math.Nat.{pow-suc, div-div-eq-div-mul, div-eq_of_lt}
 use Rattle.std.proofs.lemmas.Bool.{cases_lt}
 use Rattle.std.proofs.lemmas.Nat.{pow_pos}
 use Rattle.cine_nums.specs.Division.{div_up}
+use Rattle.cine_nums.specs.Levels.{band_level}
+use Rattle.cine_nums.proofs.Levels.{band_level-above}
 use Rattle.cine_nums.specs.declared.orient.Orient.{Orient}
 use Rattle.cine_nums.specs.declared.orient.Orient.TheVariants.{LL, HL, LH, HH}
-use Rattle.band_geometry.specs.Sizes.{res_side, band_level, band_side}
+use Rattle.band_geometry.specs.Sizes.{res_side, band_side}
 use Rattle.band_geometry.specs.Bands.{HasBand, band_of, offset_across, offset_down}
 use Rattle.band_geometry.specs.declared.geometry.Geometry.{Geometry}
 use Rattle.band_geometry.proofs.SideLemmas.{res_side-below}
@@ -24,11 +26,6 @@ half_of_rest n d pos = div-div-eq-div-mul (n + (d - 1)) d 2 ∙ by_size (cases_l
         let e : n + (d - 1) ≡ n - d * 1 + (d * 2 - 1) = omega arith in
         ap (λ m. m / (d * 2)) e
 
--- the level of a resolution's bands is one more than the halvings up to the resolution
-level_above : (levels r : ℕ) → 1 ≤ r → r ≤ levels → band_level levels r ≡ suc (levels - r)
-level_above levels zero some enough = absurd (omega (arith, some))
-level_above levels (suc r) some enough = omega (arith, enough)
-
 low_side_at : (level side : ℕ) → div_up side (2 ^ level) ≡ band_side level side 0
 unfolding band_side
 low_side_at level side =
@@ -44,7 +41,7 @@ high_side_at l side =
 low_side : (levels side r : ℕ) → 1 ≤ r → r ≤ levels →
     res_side levels side (r - 1) ≡ band_side (band_level levels r) side 0
 low_side levels side r some enough =
-    let level = level_above levels r some enough in
+    let level = band_level-above levels r some enough in
     let e : levels - (r - 1) ≡ band_level levels r = omega (arith, level) in
     ap (λ l. div_up side (2 ^ l)) e ∙ low_side_at (band_level levels r) side
 
@@ -54,7 +51,7 @@ high_side levels side r some enough =
     let n = res_side levels side r in
     let below = res_side-below levels side r some enough in
     let half : n - res_side levels side (r - 1) ≡ n / 2 = omega (arith, below) in
-    half ∙ high_side_at (levels - r) side ∙ ap (λ l. band_side l side 1) (sym (level_above levels r some enough))
+    half ∙ high_side_at (levels - r) side ∙ ap (λ l. band_side l side 1) (sym (band_level-above levels r some enough))
 
 lowest_side : (levels side r : ℕ) → r ≡ 0 → res_side levels side 0 ≡ band_side (band_level levels r) side 0
 lowest_side levels side zero lowest =

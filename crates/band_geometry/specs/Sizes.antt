@@ -14,11 +14,6 @@ least_levels_of FourK = 1
 abbrev pub res_side : ℕ → ℕ → ℕ → ℕ
 res_side levels side r = div_up side (2 ^ (levels - r))
 
--- the decomposition level n of the bands of resolution r, of L levels: L for LL, L - r + 1 above it
-abbrev pub band_level : ℕ → ℕ → ℕ
-band_level levels zero = levels
-band_level levels (suc r) = levels - r
-
 -- one side of a band of this level (B-15 with the tile at the origin). The offset is that of Table B.1:
 -- 1 where the band is high-pass in this direction, else 0. The subtraction stops at 0: where the offset
 -- takes off more than the side has, the standard's quotient lies above -1 and rounds up to 0 as well

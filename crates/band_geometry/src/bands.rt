@@ -9,7 +9,8 @@ impl Geometry {
     ghost use Rattle.band_geometry.specs.Bands.{HasBand, band_of, IsBlock, block_of, IsPlaceIn, HoldsPlace};
     ghost use Rattle.band_geometry.specs.Bands.{precinct_blocks_of, IsInRange, block_columns, block_rows};
     ghost use Rattle.band_geometry.specs.Bands.{offset_across, offset_down};
-    ghost use Rattle.band_geometry.specs.Sizes.{precinct_count, band_level, band_side};
+    ghost use Rattle.cine_nums.specs.Levels.{band_level};
+    ghost use Rattle.band_geometry.specs.Sizes.{precinct_count, band_side};
     ghost use Rattle.band_geometry.specs.declared.places.BlockId.{BlockId};
 
     /// Where a band stands in the transformed plane (ISO/IEC 15444-1, B.5): the bands HL, LH and HH

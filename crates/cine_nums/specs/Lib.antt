@@ -1,4 +1,5 @@
 pub mod Bits
 pub mod Division
 pub mod Fixed
+pub mod Levels
 pub mod Profile

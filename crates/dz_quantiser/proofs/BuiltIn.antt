@@ -1,11 +1,13 @@
 -- The built-in steps: how their list grows, what stands at the place of a band, and that each can be used.
 use Rattle.std.proofs.Common.{◌≡◌, ◌≢◌, ℕ, zero, suc, ◌+◌, ◌-◌, ◌*◌, ◌<◌, ◌≤◌, List, [], ◌∷◌, ◌++◌, length, get_or, append_assoc, refl, ap, subst, sym, arith}
+use Rattle.cine_nums.specs.Levels.{band_level}
 use Rattle.cine_nums.specs.Profile.{levels_of, guard_of}
 use Rattle.cine_nums.specs.declared.orient.Orient.{Orient}
 use Rattle.cine_nums.specs.declared.orient.Orient.TheVariants.{LL, HL, LH, HH}
 use Rattle.cine_nums.specs.declared.profile.Profile.{Profile}
 use Rattle.cine_nums.specs.declared.profile.Profile.TheVariants.{TwoK, FourK}
-use Rattle.dz_quantiser.specs.Bands.{built_in_step, built_in_above, built_in_bands, level_of, range_of, step_of, IsUsable, AreUsable}
+use Rattle.cine_nums.proofs.Levels.{band_level-above}
+use Rattle.dz_quantiser.specs.Bands.{built_in_step, built_in_above, built_in_bands, range_of, step_of, IsUsable, AreUsable}
 use Rattle.dz_quantiser.specs.declared.steps.BandStep.{BandStep}
 use Rattle.dz_quantiser.specs.declared.steps.Steps.{Steps}
 
@@ -30,14 +32,14 @@ above-at (suc n) (suc k) j d lt three =
     rw (place, level) (above-at n k j d (omega arith) three)
 
 bands-at : (levels r j : ℕ) (d : BandStep) → 1 ≤ r → r ≤ levels → j < 3 →
-    get_or (built_in_bands levels) (3 * (r - 1) + j + 1) d ≡ built_in_step (level_of levels r)
+    get_or (built_in_bands levels) (3 * (r - 1) + j + 1) d ≡ built_in_step (band_level levels r)
 bands-at levels zero j d one le three = absurd (omega arith)
 bands-at levels (suc r) j d one le three =
     let place : 3 * (suc r - 1) + j + 1 ≡ suc (3 * r + j) = omega arith in
     rw place (above-at levels r j d (omega arith) three)
 
 pub step-at : (levels r : ℕ) (o : Orient) (steps : Steps) → steps.bands.items ≡ built_in_bands levels →
-    1 ≤ r → r ≤ levels → o ≢ LL → step_of steps r o ≡ built_in_step (level_of levels r)
+    1 ≤ r → r ≤ levels → o ≢ LL → step_of steps r o ≡ built_in_step (band_level levels r)
 step-at levels r LL steps is one le other = absurd (other refl)
 step-at levels r HL steps is one le other =
     let place : 3 * (r - 1) + 1 ≡ 3 * (r - 1) + 0 + 1 = omega arith in
@@ -65,14 +67,6 @@ range-most HL = omega arith
 range-most LH = omega arith
 range-most HH = omega arith
 
-level-least : (levels r : ℕ) → 1 ≤ r → r ≤ levels → 1 ≤ level_of levels r
-level-least levels zero one le = absurd (omega arith)
-level-least levels (suc r) one le = omega arith
-
-level-most : (levels r : ℕ) → level_of levels r ≤ levels
-level-most levels zero = omega arith
-level-most levels (suc r) = omega arith
-
 length-above : (n : ℕ) → length (built_in_above n) ≡ 3 * n
 length-above zero = refl
 length-above (suc n) = let before : length (built_in_above n) ≡ 3 * n = length-above n in omega arith
@@ -81,10 +75,9 @@ step-usable : (levels r : ℕ) (o : Orient) (steps : Steps) → steps.guard ≤ 
     steps.bands.items ≡ built_in_bands levels → 1 ≤ r → r ≤ levels → o ≢ LL →
     IsUsable steps.guard (range_of o) (step_of steps r o)
 step-usable levels r o steps few small is low high other =
-    let least : 1 ≤ level_of levels r = level-least levels r low high in
-    let most : level_of levels r ≤ levels = level-most levels r in
+    let level : band_level levels r ≡ suc (levels - r) = band_level-above levels r low high in
     subst (IsUsable steps.guard (range_of o)) (sym (step-at levels r o steps is low high other))
-    (usable steps.guard (range_of o) (level_of levels r) few (range-most o) least (omega arith))
+    (usable steps.guard (range_of o) (band_level levels r) few (range-most o) (omega (arith, level)) (omega (arith, level)))
 
 lowest-usable : (levels : ℕ) (steps : Steps) → steps.guard ≤ 2 → levels + steps.guard ≤ 8 → 1 ≤ levels →
     steps.bands.items ≡ built_in_bands levels → IsUsable steps.guard 12 (step_of steps 0 LL)

@@ -13,11 +13,6 @@ band_number r HL = 3 * (r - 1) + 1
 band_number r LH = 3 * (r - 1) + 2
 band_number r HH = 3 * (r - 1) + 3
 
--- the level of the bands of resolution r, of so many levels of the wavelet transform (Annex F.3.1)
-abbrev pub level_of : ℕ → ℕ → ℕ
-level_of levels zero = levels
-level_of levels (suc r) = levels - r
-
 -- the dynamic range of a band in bits: the 12 of the samples and the gain of the band's filters (E-4)
 abbrev pub range_of : Orient → ℕ
 range_of LL = 12

@@ -1,9 +1,10 @@
 // The steps of the bands.
 ghost use Rattle.std.specs.Prelude.{ℕ, ◌≡◌, ◌≢◌, ◌+◌, ◌*◌, ◌<◌, ◌≤◌};
 ghost use Rattle.arrayvec.specs.ArrayVec.{array_vec_len};
+ghost use Rattle.cine_nums.specs.Levels.{band_level};
 ghost use Rattle.cine_nums.specs.Profile.{guard_of, levels_of};
 ghost use Rattle.cine_nums.specs.declared.orient.Orient.{Orient};
-ghost use Rattle.dz_quantiser.specs.Bands.{band_number, level_of, range_of, planes_of, built_in_step, built_in_bands, step_of, AreUsable};
+ghost use Rattle.dz_quantiser.specs.Bands.{band_number, range_of, planes_of, built_in_step, built_in_bands, step_of, AreUsable};
 
 use arrayvec::ArrayVec;
 use cine_nums::{Orient, Profile};
@@ -35,7 +36,7 @@ impl Steps {
         ensures bands { result.bands.items ≡ built_in_bands (levels_of profile) }
         // The band at each place has its level.
         ensures levels { (r : ℕ) (o : Orient) → 1 ≤ r → r ≤ levels_of profile → o ≢ Orient.LL →
-            step_of result r o ≡ built_in_step (level_of (levels_of profile) r) }
+            step_of result r o ≡ built_in_step (band_level (levels_of profile) r) }
         ensures usable { AreUsable (levels_of profile) result }
     {
         let levels = profile.levels();
