@@ -1,4 +1,4 @@
-// Which tile-part holds a block.
+// Which tile-part holds a resolution of a component, and thus a block.
 ghost use Rattle.std.specs.Prelude.{◌≡◌, ◌<◌};
 ghost use Rattle.cine_nums.specs.Profile.{parts_of};
 
@@ -10,23 +10,33 @@ impl Geometry {
     ghost use Rattle.band_geometry.specs.Bands.{IsBlock};
     ghost use Rattle.band_geometry.specs.Parts.{part_of_res};
 
-    /// The tile-part, counted from 0, that holds a code block. In 2K it is that of the block's
-    /// component. In 4K the tile-parts 0 to 2 hold the components without their largest resolution,
-    /// which the tile-parts 3 to 5 hold.
+    /// The tile-part, counted from 0, that holds resolution `res` of a component. In 2K it is that of
+    /// the component. In 4K the tile-parts 0 to 2 hold the components without their largest
+    /// resolution, which the tile-parts 3 to 5 hold.
+    pub fn part_at(&self, component: u8, res: u8) -> u8
+        requires { component < 3 }
+        ensures value { result ≡ part_of_res self.now.profile self.now.levels component res }
+        ensures exists { result < parts_of self.now.profile }
+    {
+        match self.profile {
+            Profile::TwoK => component,
+            Profile::FourK => {
+                if res < self.levels {
+                    component
+                } else {
+                    3 + component
+                }
+            }
+        }
+    }
+
+    /// The tile-part, counted from 0, that holds a code block: the one with its resolution of its
+    /// component, as `part_at` tells.
     pub fn part_of(&self, id: BlockId) -> u8
         requires { IsBlock self.now id }
         ensures value { result ≡ part_of_res self.now.profile self.now.levels id.component id.res }
         ensures exists { result < parts_of self.now.profile }
     {
-        match self.profile {
-            Profile::TwoK => id.component,
-            Profile::FourK => {
-                if id.res < self.levels {
-                    id.component
-                } else {
-                    3 + id.component
-                }
-            }
-        }
+        self.part_at(id.component, id.res)
     }
 }

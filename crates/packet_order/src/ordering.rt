@@ -10,7 +10,7 @@ ghost use Rattle.packet_order.specs.Sorting.{insert_by, insert_all};
 ghost use Rattle.packet_order.specs.declared.packet.PacketId.{PacketId};
 
 use crate::packet::PacketId;
-use crate::place::{comes_first, part_with};
+use crate::place::comes_first;
 use band_geometry::Geometry;
 use std::alloc::{AllocError, Global};
 
@@ -66,7 +66,7 @@ fn add_res_of_part(
     ensures { OnOk result (packets.new.items ≡ insert_all (comes_before geometry.now) packets.old.items
         (packets_of_res_in geometry.now part component res)) }
 {
-    if part_with(geometry, component, res) == part {
+    if geometry.part_at(component, res) == part {
         return add_res(packets, geometry, component, res);
     }
     Ok(())

@@ -1,11 +1,9 @@
-// Where packets stand on the reference grid, and which tile-part holds them.
-ghost use Rattle.std.specs.Prelude.{◌≡◌, ◌<◌};
-ghost use Rattle.band_geometry.specs.Parts.{part_of_res};
+// Where packets stand on the reference grid, and which of two stands first.
+ghost use Rattle.std.specs.Prelude.{◌≡◌};
 ghost use Rattle.packet_order.specs.Order.{place_of, comes_before};
 
 use crate::packet::PacketId;
 use band_geometry::Geometry;
-use cine_nums::Profile;
 
 // The place of a packet's precinct on the reference grid, across and down.
 fn place(geometry: &Geometry, id: PacketId) -> (u64, u64)
@@ -32,22 +30,5 @@ pub(crate) fn comes_first(geometry: &Geometry, a: PacketId, b: PacketId) -> bool
         ax < bx
     } else {
         a.res < b.res
-    }
-}
-
-// The tile-part that holds a resolution of a component.
-pub(crate) fn part_with(geometry: &Geometry, component: u8, res: u8) -> u8
-    requires { component < 3 }
-    ensures { result ≡ part_of_res geometry.now.profile geometry.now.levels component res }
-{
-    match geometry.profile {
-        Profile::TwoK => component,
-        Profile::FourK => {
-            if res < geometry.levels {
-                component
-            } else {
-                3 + component
-            }
-        }
     }
 }
