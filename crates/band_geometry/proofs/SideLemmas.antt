@@ -1,6 +1,6 @@
 -- Each resolution is the one above it, halved and rounded up.
-use Rattle.std.proofs.Common.{◌≡◌, ℕ, suc, ◌+◌, ◌-◌, ◌*◌, ◌/◌, ◌^◌, ◌<◌, ◌≤◌, arith, ◌∙◌, sym, ap}
-use Rattle.std.proofs.Math.Nat.{pow-suc, add-div_right, div-div-eq-div-mul}
+use Rattle.std.proofs.Common.{◌≡◌, ℕ, zero, suc, ◌+◌, ◌-◌, ◌*◌, ◌/◌, ◌^◌, ◌<◌, ◌≤◌, inl, inr, arith, ◌∙◌, sym, ap}
+use Rattle.std.proofs.Math.Nat.{pow-suc, add-div_right, div-div-eq-div-mul, eq-or-lt_of_le}
 use Rattle.std.proofs.lemmas.Nat.{pow_pos}
 use Rattle.cine_nums.specs.Division.{div_up}
 use Rattle.band_geometry.specs.Sizes.{res_side}
@@ -25,3 +25,24 @@ res_side_below_le levels side r some enough =
     let n = res_side levels side r in
     let e = res_side-below levels side r some enough in
     omega (arith, e)
+
+-- nor than any above it: the sides of the resolutions don't fall
+pub res_side-monotone : (levels side a b : ℕ) → a ≤ b → b ≤ levels → res_side levels side a ≤ res_side levels side b
+res_side-monotone levels side a zero le within = let same : a ≡ 0 = omega arith in rw same (omega arith)
+res_side-monotone levels side a (suc b) le within =
+    elim (eq-or-lt_of_le le) [
+      | inl same ↦ rw same (omega arith)
+      | inr lt ↦
+          let step : res_side levels side (suc b - 1) ≤ res_side levels side (suc b) =
+          res_side_below_le levels side (suc b) (omega arith) within in
+          let less : suc b - 1 ≡ b = omega arith in
+          let below : res_side levels side a ≤ res_side levels side b =
+          res_side-monotone levels side a b (omega arith) (omega arith) in
+          omega (arith, rw less at step)
+    ]
+
+-- the largest resolution is the whole frame
+pub res_side-top : (levels side : ℕ) → res_side levels side levels ≡ side
+res_side-top levels side =
+    let none : levels - levels ≡ 0 = omega arith in
+    rw none (omega arith)

@@ -100,6 +100,13 @@ pub record IsPlaceIn (r : Rect) (x y : ℕ) : Type 0 where
   pub top : r.y ≤ y
   pub bottom : y < r.y + r.height
 
+-- the place (x, y) of the transformed plane is one of a band
+pub record IsInBand (g : Geometry) (x y : ℕ) : Type 0 where
+  pub res : ℕ
+  pub orient : Orient
+  pub band : HasBand g res orient
+  pub place : IsPlaceIn (band_of g res orient) x y
+
 -- the block is one of this band of component c, and the place (x, y) of the plane lies in it
 pub record HoldsPlace (g : Geometry) (c r : ℕ) (o : Orient) (x y : ℕ) (id : BlockId) : Type 0 where
   pub exists : IsBlock g id

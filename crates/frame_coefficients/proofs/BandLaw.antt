@@ -8,16 +8,18 @@ use Rattle.cine_nums.specs.declared.orient.Orient.TheVariants.{LL, HL, LH, HH}
 use Rattle.band_geometry.specs.Bands.{band_of, HasBand, IsPlaceIn}
 use Rattle.band_geometry.specs.Sizes.{res_side}
 use Rattle.band_geometry.specs.declared.geometry.Geometry.{Geometry}
+use Rattle.band_geometry.proofs.PlaneLemmas.{column_in_plane, row_in_plane}
+use Rattle.band_geometry.proofs.SideLemmas.{res_side-monotone}
 use Rattle.dz_quantiser.specs.declared.coef.Coef.{Coef}
 use Rattle.dz_quantiser.specs.declared.steps.Steps.{Steps}
 use Rattle.frame_coefficients.specs.Places.{res_at, orient_of, index_in, coef_at, quantised}
 use Rattle.frame_coefficients.proofs.Resolutions.{res_of-below}
-use Rattle.frame_coefficients.proofs.Rows.{res_is, res_side-le, res_side-top, column_is, row_is}
+use Rattle.frame_coefficients.proofs.Rows.{res_is, column_is, row_is}
 
 res_low : (levels side k i : ℕ) → k ≤ levels → i < res_side levels side k → res_at levels side i ≤ k
 res_low levels side k i within lt =
     res_of-below (res_side levels side) levels k i within
-    (λ m low high. let le : res_side levels side k ≤ res_side levels side m = res_side-le levels side k m low (omega arith) in omega arith)
+    (λ m low high. let le : res_side levels side k ≤ res_side levels side m = res_side-monotone levels side k m low (omega arith) in omega arith)
 
 -- a side that lies in the part that resolution r has and the one below it has not
 res_high : (levels side r i : ℕ) → 1 ≤ r → r ≤ levels → res_side levels side (r - 1) ≤ i →
@@ -28,7 +30,7 @@ res_high levels side (suc r) i some within from to =
     let less : suc r - 1 ≡ r = omega arith in
     let low : res_side levels side r ≤ i = rw less at from in
     let top : i < res_side levels side r + (res_side levels side (suc r) - res_side levels side r) = rw less at to in
-    let le : res_side levels side r ≤ res_side levels side (suc r) = res_side-le levels side r (suc r) (omega arith) within in
+    let le : res_side levels side r ≤ res_side levels side (suc r) = res_side-monotone levels side r (suc r) (omega arith) within in
     res_is levels side (suc r) i within low (omega arith)
 
 record IsBandOf (c r' r : ℕ) (o : Orient) : Type 0 where
@@ -77,37 +79,13 @@ band_is g r HH x y has place =
     (res_high g.levels g.width r x has.orient has.res place.left place.right)
     (res_high g.levels g.height r y has.orient has.res place.top place.bottom)
 
--- the band lies in the plane
-inside_low : (levels side r i : ℕ) → r ≤ levels → i < res_side levels side r → i < side
-inside_low levels side r i within lt =
-    let le : res_side levels side r ≤ res_side levels side levels = res_side-le levels side r levels within (omega arith) in
-    omega (arith, res_side-top levels side)
-
-inside_high : (levels side r i : ℕ) → 1 ≤ r → r ≤ levels →
-    i < res_side levels side (r - 1) + (res_side levels side r - res_side levels side (r - 1)) → i < side
-inside_high levels side r i some within lt =
-    let le : res_side levels side (r - 1) ≤ res_side levels side r = res_side-le levels side (r - 1) r (omega arith) within in
-    inside_low levels side r i within (omega arith)
-
-column_in : (g : Geometry) (r : ℕ) (o : Orient) (x y : ℕ) → HasBand g r o → IsPlaceIn (band_of g r o) x y → x < g.width
-column_in g r LL x y has place = inside_low g.levels g.width 0 x (omega arith) (omega (arith, place.right))
-column_in g r HL x y has place = inside_high g.levels g.width r x has.orient has.res place.right
-column_in g r LH x y has place = inside_low g.levels g.width (r - 1) x (omega (arith, has.res)) (omega (arith, place.right))
-column_in g r HH x y has place = inside_high g.levels g.width r x has.orient has.res place.right
-
-row_in : (g : Geometry) (r : ℕ) (o : Orient) (x y : ℕ) → HasBand g r o → IsPlaceIn (band_of g r o) x y → y < g.height
-row_in g r LL x y has place = inside_low g.levels g.height 0 y (omega arith) (omega (arith, place.bottom))
-row_in g r HL x y has place = inside_low g.levels g.height (r - 1) y (omega (arith, has.res)) (omega (arith, place.bottom))
-row_in g r LH x y has place = inside_high g.levels g.height r y has.orient has.res place.bottom
-row_in g r HH x y has place = inside_high g.levels g.height r y has.orient has.res place.bottom
-
 pub coef_in_band : (g : Geometry) (steps : Steps) (cells : List ℤ) (r : ℕ) (o : Orient) (x y : ℕ) (d : Coef) →
     length cells ≡ g.height * g.width → HasBand g r o → IsPlaceIn (band_of g r o) x y →
     get_or (quantised g.levels g.width g.height steps cells) (y * g.width + x) d ≡ index_in steps r o (get_or cells (y * g.width + x) (pos 0))
 unfolding quantised coef_at
 coef_in_band g steps cells r o x y d len has place =
-    let across : x < g.width = column_in g r o x y has place in
-    let down : y < g.height = row_in g r o x y has place in
+    let across : x < g.width = column_in_plane g r o x y has place in
+    let down : y < g.height = row_in_plane g r o x y has place in
     let more : y + 1 ≤ g.height = omega arith in
     let same : g.width ≤ g.width = omega arith in
     let rows : (y + 1) * g.width ≤ g.height * g.width = mul-le-mul more same in

@@ -57,25 +57,3 @@ res_of-below side (suc t) k i le inside =
             res_of-below side t k i low (λ m from below. inside m from (omega arith)),
           )
     ]
-
--- a place inside the largest resolution is inside its own
-pub res_of-inside : (side : ℕ → ℕ) (top i : ℕ) → i < side top → i < side (res_of side top i)
-res_of-inside side zero i lt = lt
-res_of-inside side (suc t) i lt =
-    elim (cases_lt i (side t)) [
-      | inl inside ↦ rw (step_in side t i inside) (res_of-inside side t i inside)
-      | inr out ↦ rw (step_out side t i out) lt
-    ]
-
--- and outside the one below
-pub res_of-outside : (side : ℕ → ℕ) (top i : ℕ) → 1 ≤ res_of side top i → side (res_of side top i - 1) ≤ i
-res_of-outside side zero i some = absurd (omega arith)
-res_of-outside side (suc t) i some =
-    elim (cases_lt i (side t)) [
-      | inl inside ↦
-          let is = step_in side t i inside in
-          rw is (res_of-outside side t i (rw is at some))
-      | inr out ↦
-          let below : suc t - 1 ≡ t = omega arith in
-          rw (step_out side t i out, below) out
-    ]

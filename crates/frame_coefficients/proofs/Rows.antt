@@ -1,12 +1,11 @@
 -- Places in raster order, the columns of a resolution, and the coefficients there.
-use Rattle.std.proofs.Common.{◌≡◌, ℕ, zero, suc, ◌+◌, ◌-◌, ◌*◌, ◌/◌, ◌%◌, ◌^◌, ◌<◌, ◌≤◌, max, ℤ, pos, List, length, get_or, false, refl, arith, ap, ◌∙◌, inl, inr}
+use Rattle.std.proofs.Common.{◌≡◌, ℕ, zero, suc, ◌+◌, ◌-◌, ◌*◌, ◌/◌, ◌%◌, ◌^◌, ◌<◌, ◌≤◌, max, ℤ, pos, List, length, get_or, false, refl, arith, ap, ◌∙◌}
 use Rattle.std.specs.List.{All, range_with_len}
 use Rattle.std.proofs.lemmas.List.FromFn.{fill_by_all}
 use Rattle.std.proofs.lemmas.List.Elements.{All-map}
-use Rattle.std.proofs.Math.Nat.{eq-or-lt_of_le}
 use Rattle.std.proofs.lemmas.Nat.{div-mul-add, mod-mul-add}
 use Rattle.band_geometry.specs.Sizes.{res_side}
-use Rattle.band_geometry.proofs.SideLemmas.{res_side_below_le}
+use Rattle.band_geometry.proofs.SideLemmas.{res_side-monotone}
 use Rattle.dz_quantiser.specs.Bands.{AreUsable, step_of, range_of, planes_of}
 use Rattle.dz_quantiser.specs.Index.{index_of}
 use Rattle.dz_quantiser.specs.declared.steps.BandStep.{BandStep}
@@ -27,26 +26,6 @@ row_is y w k from to =
     let place : k ≡ y * w + (k - y * w) = omega arith in
     ap (λ n. n / w) place ∙ div-mul-add y w (k - y * w) (omega arith)
 
--- the sides of the resolutions don't fall
-pub res_side-le : (levels side a b : ℕ) → a ≤ b → b ≤ levels → res_side levels side a ≤ res_side levels side b
-res_side-le levels side a zero le within = let same : a ≡ 0 = omega arith in rw same (omega arith)
-res_side-le levels side a (suc b) le within =
-    elim (eq-or-lt_of_le le) [
-      | inl same ↦ rw same (omega arith)
-      | inr lt ↦
-          let step : res_side levels side (suc b - 1) ≤ res_side levels side (suc b) =
-          res_side_below_le levels side (suc b) (omega arith) within in
-          let less : suc b - 1 ≡ b = omega arith in
-          let below : res_side levels side a ≤ res_side levels side b =
-          res_side-le levels side a b (omega arith) (omega arith) in
-          omega (arith, rw less at step)
-    ]
-
-pub res_side-top : (levels side : ℕ) → res_side levels side levels ≡ side
-res_side-top levels side =
-    let none : levels - levels ≡ 0 = omega arith in
-    rw none (omega arith)
-
 -- the side of the resolution below, 0 below the lowest
 abbrev pub before : (ℕ → ℕ) → ℕ → ℕ
 before side zero = 0
@@ -54,7 +33,7 @@ before side (suc r) = side r
 
 pub before-le : (levels side r : ℕ) → r ≤ levels → before (res_side levels side) r ≤ res_side levels side r
 before-le levels side zero within = omega arith
-before-le levels side (suc r) within = res_side-le levels side r (suc r) (omega arith) within
+before-le levels side (suc r) within = res_side-monotone levels side r (suc r) (omega arith) within
 
 pub before-suc : (side : ℕ → ℕ) (r : ℕ) → before side (r + 1) ≡ side r
 before-suc side r = let next : r + 1 ≡ suc r = omega arith in rw next refl
@@ -64,7 +43,7 @@ pub res_is : (levels side r i : ℕ) → r ≤ levels → before (res_side level
     res_at levels side i ≡ r
 res_is levels side r i within from to =
     res_of-is (res_side levels side) levels r i within (outside r from)
-    (λ k low high. let le : res_side levels side r ≤ res_side levels side k = res_side-le levels side r k low (omega arith) in omega arith)
+    (λ k low high. let le : res_side levels side r ≤ res_side levels side k = res_side-monotone levels side r k low (omega arith) in omega arith)
   where
     outside : (r : ℕ) → before (res_side levels side) r ≤ i → 1 ≤ r → res_side levels side (r - 1) ≤ i
     outside zero from some = absurd (omega arith)

@@ -6,9 +6,8 @@ ghost use Rattle.dz_quantiser.specs.Bands.{AreUsable};
 ghost use Rattle.dz_quantiser.specs.Index.{index_of};
 ghost use Rattle.dz_quantiser.specs.declared.coef.Coef.{Coef};
 ghost use Rattle.frame_coefficients.specs.Places.{coef_at, index_in, quantised};
-ghost use Rattle.frame_coefficients.specs.Planes.{IsInBand};
 ghost use Rattle.cine_nums.specs.declared.orient.Orient.{Orient};
-ghost use Rattle.band_geometry.specs.Bands.{HasBand, band_of, IsPlaceIn};
+ghost use Rattle.band_geometry.specs.Bands.{HasBand, band_of, IsPlaceIn, IsInBand};
 
 use crate::band::{Band, band_at, row_res};
 use band_geometry::Geometry;

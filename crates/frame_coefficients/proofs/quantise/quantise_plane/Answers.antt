@@ -1,7 +1,7 @@
 use Rattle.std.proofs.Common.{◌≡◌, ◌*◌, ◌<◌, ◌^◌, arith, sym, subst, ap, get_or, ◌+◌, ◌∙◌}
 use Rattle.std.specs.List.{All}
+use Rattle.band_geometry.proofs.PlaneLemmas.{in_band}
 use Rattle.frame_coefficients.proofs.BandLaw.{coef_in_band}
-use Rattle.frame_coefficients.proofs.Everywhere.{in_band}
 use Rattle.frame_coefficients.proofs.Rows.{quantised-from, quantised-small}
 use Rattle.frame_coefficients.proofs.quantise.quantise_plane.Goals as goal
 

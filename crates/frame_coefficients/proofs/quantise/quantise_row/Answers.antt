@@ -1,8 +1,9 @@
 use Rattle.std.proofs.Common.{◌≡◌, ◌≤◌, pos, get_or, arith, sym, ap, refl, ◌∙◌, inl, inr}
 use Rattle.std.proofs.lemmas.Bool.{cases_lt}
 use Rattle.band_geometry.specs.Sizes.{res_side}
+use Rattle.band_geometry.proofs.SideLemmas.{res_side-monotone, res_side-top}
 use Rattle.frame_coefficients.specs.Places.{index_at}
-use Rattle.frame_coefficients.proofs.Rows.{before-le, before-suc, res_side-le, res_side-top, index_at-is, coef_in_column}
+use Rattle.frame_coefficients.proofs.Rows.{before-le, before-suc, index_at-is, coef_in_column}
 use Rattle.frame_coefficients.proofs.quantise.quantise_row.Goals as goal
 
 pub quantise_run-requires-clause-order : goal.quantise_run-requires-clause-order
@@ -15,7 +16,7 @@ loop-column-preserved c =
     let g = c.args.geometry.now in
     let column = c.loop-column.column in
     let widest : res_side g.levels g.width column ≤ res_side g.levels g.width g.levels =
-    res_side-le g.levels g.width column g.levels (omega arith) (omega arith) in
+    res_side-monotone g.levels g.width column g.levels (omega arith) (omega arith) in
     let whole : res_side g.levels g.width g.levels ≡ g.width = res_side-top g.levels g.width in
     record {
       reached = rw (before-suc (res_side g.levels g.width) column, c.res_size.ensures.width) refl;
