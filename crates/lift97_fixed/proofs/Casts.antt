@@ -16,9 +16,6 @@ within_passed z h = rw (passed_within z h) h
 pub passed_fits : (z : ℤ) → FitsSigned w32 z → passed z ≡ z
 passed_fits z h = to_z-of_z w32 z h
 
-pub widened : (z : ℤ) → FitsSigned w32 z → to_z w64 (of_z w64 (passed z)) ≡ z
-widened z h = omega (arith, ints)
-
 pub passed_sum : (x y : ℤ) → Within30 x → Within30 y → passed (passed x +ℤ passed y) ≡ x +ℤ y
 passed_sum x y f g = omega (arith, ints)
 

@@ -5,7 +5,7 @@ use Rattle.std.proofs.Math.Nat.{eq_of_mul-eq-mul_right}
 use Rattle.std.proofs.lemmas.Nat.{pow_pos}
 use Rattle.std.proofs.lemmas.Bool.{cases_lt}
 use Rattle.std.proofs.lemmas.Bool.Decides.{nat_tests}
-use Rattle.std.proofs.lemmas.List.Elements.{All-nil, All-cons, All-append}
+use Rattle.std.proofs.lemmas.List.Elements.{All-nil, All-cons, All-append, All-head, All-tail}
 use Rattle.std.proofs.lemmas.List.Kept.{AllPairs-cons}
 use Rattle.std.proofs.lemmas.List.FromFn.{get_or-map-range_with_len, length-map-range_with_len}
 use Rattle.std.proofs.lemmas.List.Sorted.{All-permutation}
@@ -33,12 +33,6 @@ first_of_pairs R x xs pairs k d below = pairs 0 (suc k) d (omega arith) (omega (
 other_pairs : {A : Type 0} (R : A → A → Type 0) (x : A) (xs : List A) → AllPairs R (x ∷ xs) → AllPairs R xs
 other_pairs R x xs pairs i j d less below = pairs (suc i) (suc j) d (omega (arith, less)) (omega (arith, below))
 
-others : {A : Type 0} (P : A → Type 0) (x : A) (xs : List A) → All P (x ∷ xs) → All P xs
-others P x xs each k d below = each (suc k) d (omega (arith, below))
-
-first : {A : Type 0} (P : A → Type 0) (x : A) (xs : List A) → All P (x ∷ xs) → P x
-first P x xs each = each 0 x (omega arith)
-
 no_pairs : {A : Type 0} (R : A → A → Type 0) → AllPairs R []
 no_pairs R i j d less below = absurd (omega (arith, below))
 
@@ -54,14 +48,14 @@ strict_insert {A} before order a (x ∷ xs) pairs differ =
       | true ↦ λ is. AllPairs-cons (Before before) a (x ∷ xs)
           (All-cons (Before before a) x xs is (λ k d below. order a x (get_or xs k d) is (rest k d below))) pairs
       | false ↦ λ is.
-          let less : before x a ≡ true = elim (first (λ y. Differs before y a) x xs differ) [
+          let less : before x a ≡ true = elim (All-head (λ y. Differs before y a) x xs differ) [
             | inl there ↦ there
             | inr back ↦ let other : before a x ≡ true = back in cc
           ] in
           AllPairs-cons (Before before) x (insert_by before a xs)
           (All-permutation (Before before x) (a ∷ xs) (insert_by before a xs) (inserted_permuted before a xs)
           (All-cons (Before before x) a xs less rest))
-          (strict_insert before order a xs (other_pairs (Before before) x xs pairs) (others (λ y. Differs before y a) x xs differ))
+          (strict_insert before order a xs (other_pairs (Before before) x xs pairs) (All-tail (λ y. Differs before y a) x xs differ))
     ] in
     go (before a x) refl
 
@@ -70,11 +64,11 @@ strict_all : {A : Type 0} (before : A → A → Bool) → IsTransitive before �
 strict_all before order sorted [] pairs differ across = pairs
 strict_all {A} before order sorted (x ∷ xs) pairs differ across =
     strict_all before order (insert_by before x sorted) xs
-    (strict_insert before order x sorted pairs (λ k d below. first (Differs before (get_or sorted k d)) x xs (across k d below)))
+    (strict_insert before order x sorted pairs (λ k d below. All-head (Differs before (get_or sorted k d)) x xs (across k d below)))
     (other_pairs (Differs before) x xs differ)
     (All-permutation (λ s. All (Differs before s) xs) (x ∷ sorted) (insert_by before x sorted) (inserted_permuted before x sorted)
     (All-cons (λ s. All (Differs before s) xs) x sorted (first_of_pairs (Differs before) x xs differ)
-    (λ k d below. others (Differs before (get_or sorted k d)) x xs (across k d below))))
+    (λ k d below. All-tail (Differs before (get_or sorted k d)) x xs (across k d below))))
 
 -- Lists that are joined of pieces.
 
@@ -83,8 +77,8 @@ pairs_append : {A : Type 0} (R : A → A → Type 0) (xs ys : List A) → AllPai
 pairs_append R [] ys left right across = right
 pairs_append R (x ∷ xs) ys left right across =
     AllPairs-cons R x (xs ++ ys)
-    (All-append (R x) xs ys (first_of_pairs R x xs left) (first (λ z. All (R z) ys) x xs across))
-    (pairs_append R xs ys (other_pairs R x xs left) right (others (λ z. All (R z) ys) x xs across))
+    (All-append (R x) xs ys (first_of_pairs R x xs left) (All-head (λ z. All (R z) ys) x xs across))
+    (pairs_append R xs ys (other_pairs R x xs left) right (All-tail (λ z. All (R z) ys) x xs across))
 
 pairs_pieces : {A : Type 0} (R : A → A → Type 0) (P : ℕ → A → Type 0) (f : ℕ → List A) (n : ℕ) →
     ((i : ℕ) → i < n → AllPairs R (f i)) → ((i : ℕ) → i < n → All (P i) (f i)) →
