@@ -1,5 +1,5 @@
 // Headers whose bytes are typed from the tables of ISO/IEC 15444-1, Annex A.
-ghost use Rattle.std.specs.Prelude.{◌≡◌, ◌≤◌};
+ghost use Rattle.std.specs.Prelude.{◌≤◌};
 ghost use Rattle.cine_nums.specs.Profile.{max_width_of, max_height_of};
 
 use crate::header::MainHeader;

@@ -7,8 +7,9 @@ use Rattle.cine_ports.specs.Outputs.{Kept}
 use Rattle.cine_ports.specs.Moves.{HasSomeBytesOf}
 use Rattle.pnm_frames.specs.Picture.{Picture}
 use Rattle.pnm_frames.specs.Fault.{Fault}
+use Rattle.frame_encoder.specs.Encoded.{empty_codestream_of}
 use Rattle.encode_cli.specs.Put.{kept_and, kept_and_part, HasPartOf}
-use Rattle.encode_cli.specs.Visit.{Visit, output_name, empty_codestream_of, outputs_of, line_of, Before, Writing, Saying, kept_at, said_at, BrokenOff}
+use Rattle.encode_cli.specs.Visit.{Visit, output_name, outputs_of, line_of, Before, Writing, Saying, kept_at, said_at, BrokenOff}
 
 -- outputs without an unfinished file are their finished ones
 rest_same : (k : Option Kept) → ForSome k (λ kept. kept.unfinished ≡ None) → k ≡ option_map (λ kept. kept_at Before kept.finished) k

@@ -1,9 +1,7 @@
-pub mod Appends
 pub mod Breaks
 pub mod Coming
 pub mod Faults
 pub mod FiveWords
 pub mod FreshNames
-pub mod Packets
 pub mod Puts
 pub mod Told

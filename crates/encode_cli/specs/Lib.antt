@@ -1,8 +1,4 @@
-pub mod Codestream
-pub mod Distortion
-pub mod Fields
 pub mod Line
-pub mod MainHeader
 pub mod Progress
 pub mod Put
 pub mod Run

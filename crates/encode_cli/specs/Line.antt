@@ -2,8 +2,8 @@
 use Rattle.std.specs.Prelude.{ℕ, ◌+◌, ◌/◌, ◌%◌, ◌||◌, ◌&&◌, ◌==◌, nat_le, nat_lt, List, [], ◌∷◌, ◌++◌, if◌then◌else◌, Bool, codes, decimal}
 use Rattle.std.specs.List.{flat_map}
 use Rattle.pnm_frames.specs.Fault.{Fault, NotPpm, BadHeader, HeaderTooLong, WrongMaxval, WidthOutOfRange, HeightOutOfRange, SampleTooLarge, Truncated, TrailingBytes}
-use Rattle.encode_cli.specs.declared.limits.TheConstants.{FRAME_LIMIT, COMPONENT_LIMIT}
-use Rattle.encode_cli.specs.declared.account.Account.{Account}
+use Rattle.frame_encoder.specs.declared.limits.TheConstants.{FRAME_LIMIT, COMPONENT_LIMIT}
+use Rattle.frame_encoder.specs.declared.account.Account.{Account}
 
 -- whether a byte of a name is printed as it is: ASCII letters, digits, '.', '_' and '-'
 abbrev pub is_plain : ℕ → Bool

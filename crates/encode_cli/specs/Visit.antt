@@ -1,6 +1,5 @@
 -- One frame of a run: what it comes to, what is written for it, what is said of it.
-use Rattle.std.specs.Prelude.{ℕ, ◌≡◌, ◌<◌, ◌≤◌, Bool, true, false, List, [], ◌∷◌, ◌++◌, Option, Some, None, Result, Ok, Err, IsOk, IfOk, length, take, replicate, option_map, codes}
-use Rattle.std.specs.List.{AllByRecursion}
+use Rattle.std.specs.Prelude.{ℕ, ◌≡◌, ◌<◌, ◌≤◌, Bool, true, false, List, [], ◌∷◌, ◌++◌, Option, Some, None, Result, Ok, Err, IsOk, IfOk, length, take, option_map, codes}
 use Rattle.cine_ports.specs.Source.{File}
 use Rattle.cine_ports.specs.Outputs.{Kept}
 use Rattle.pnm_frames.specs.declared.limits.SizeLimits.{SizeLimits}
@@ -9,11 +8,8 @@ use Rattle.pnm_frames.specs.Picture.{Picture}
 use Rattle.pnm_frames.specs.Fault.{Fault}
 use Rattle.pnm_frames.specs.Reading.{frame_of}
 use Rattle.pnm_frames.specs.View.{picture_of}
-use Rattle.encode_cli.specs.declared.limits.TheConstants.{FRAME_LIMIT, COMPONENT_LIMIT}
-use Rattle.encode_cli.specs.Codestream.{codestream, empty_parts, packet_count, part_length}
-use Rattle.encode_cli.specs.Distortion.{empty_distortion}
+use Rattle.frame_encoder.specs.Encoded.{empty_codestream_of, account_of, IsWithinLimits}
 use Rattle.encode_cli.specs.Line.{ok_line, refused_line}
-use Rattle.encode_cli.specs.declared.account.Account.{Account}
 
 -- the sizes of the 2K profile
 abbrev pub sizes_2k : SizeLimits
@@ -27,19 +23,6 @@ pub record Visit : Type 0 where
 -- what a file of the source comes to
 abbrev pub visit_of : File → Visit
 visit_of file = record { name = file.name; found = frame_of sizes_2k file.bytes }
-
--- the packets of each tile-part where no coding pass is chosen
-abbrev pub parts_of : Picture → List (List ℕ)
-parts_of p = empty_parts (packet_count p.width p.height)
-
--- the codestream of a picture without any coding pass
-abbrev pub empty_codestream_of : Picture → List ℕ
-empty_codestream_of p = codestream p.width p.height (parts_of p)
-
--- the codestream of a picture is within the byte limits: as a whole, and the tile-part of each component
-pub record IsWithinLimits (p : Picture) : Type 0 where
-  pub frame : length (empty_codestream_of p) ≤ FRAME_LIMIT
-  pub parts : AllByRecursion (λ packets. part_length packets ≤ COMPONENT_LIMIT) (parts_of p)
 
 -- the name of a frame's output
 abbrev pub output_name : List ℕ → List ℕ
@@ -57,16 +40,6 @@ outputs_of_found name (Err fault) = []
 
 abbrev pub outputs_of : Visit → List File
 outputs_of visit = outputs_of_found visit.name visit.found
-
--- what the line of a picture tells
-abbrev pub account_of : Picture → Account
-account_of p = record {
-  width = p.width;
-  height = p.height;
-  frame = length (empty_codestream_of p);
-  part = part_length (replicate (packet_count p.width p.height) 0);
-  empty = empty_distortion p;
-}
 
 -- the line of a frame
 abbrev pub line_of_found : List ℕ → Result Picture Fault → List ℕ

@@ -1,10 +1,9 @@
 // The lines of the report.
-ghost use Rattle.std.specs.Prelude.{◌≡◌, ◌<◌, ◌++◌, IfOk, IfSome, OnOk, IsTrue, string_bytes};
+ghost use Rattle.std.specs.Prelude.{◌≡◌, ◌<◌, ◌++◌, IfOk, IfSome, OnOk, string_bytes};
 ghost use Rattle.encode_cli.specs.Line.{is_plain, hex_digit, escaped_byte, escaped, budget, budgets, ok_head, passes, ok_line, fault_words, refused_line};
 ghost use Rattle.pnm_frames.specs.Fault.{fault_of};
 
-use crate::account::Account;
-use crate::limits::{COMPONENT_LIMIT, FRAME_LIMIT};
+use frame_encoder::{Account, COMPONENT_LIMIT, FRAME_LIMIT};
 use pnm_frames::FrameRefusal;
 use std::alloc::{AllocError, Global};
 

@@ -9,12 +9,7 @@
 //! ```
 #![tactic(auto)]
 
-mod account;
-mod codestream;
-mod fields;
-mod limits;
 mod lines;
-mod main_header;
 mod put;
 mod run;
 mod stop;

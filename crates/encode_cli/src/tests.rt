@@ -1,7 +1,6 @@
 // Whole runs, over objects in memory and over folders.
 ghost use Rattle.std.specs.Prelude.{◌≤◌};
 
-use crate::codestream::empty_codestream;
 use crate::run::run;
 use cine_ports::{
     FolderFrames, FolderOutputs, MemoryFrame, MemoryFrames, MemoryOutputs, MemoryReport,
@@ -206,16 +205,6 @@ fn other_words_are_no_command(rt: HostRuntime) -> Result<(), Fail> {
         let ended = run_over(alloc, text, Vec::new(alloc), &[], &[])?;
         assert_eq!(rt; ended.status, 2);
     }
-    Ok(())
-}
-
-#[test]
-fn lengths_of_empty_codestreams(rt: HostRuntime) -> Result<(), Fail> {
-    let alloc = rt.alloc();
-    assert_eq!(rt; empty_codestream(alloc, 2048, 1080)?.bytes.len(), 350);
-    assert_eq!(rt; empty_codestream(alloc, 1, 1080)?.bytes.len(), 212);
-    assert_eq!(rt; empty_codestream(alloc, 2048, 1)?.bytes.len(), 224);
-    assert_eq!(rt; empty_codestream(alloc, 129, 257)?.bytes.len(), 194);
     Ok(())
 }
 

@@ -1,5 +1,5 @@
 // What is written and said of one frame.
-ghost use Rattle.std.specs.Prelude.{Option, ◌≡◌, ◌≤◌, ◌++◌, [], ◌∷◌, false, map, option_map, Contains, OnOk, OnErr, IfOk, IfSome, string_bytes, codes};
+ghost use Rattle.std.specs.Prelude.{Option, ◌≡◌, ◌≤◌, [], false, map, option_map, Contains, OnOk, OnErr, IfOk, IfSome, string_bytes};
 ghost use Rattle.std.specs.Option.{ForSome};
 ghost use Rattle.cine_ports.specs.Moves.{said_with};
 ghost use Rattle.cine_ports.specs.Outputs.{Kept};
@@ -8,12 +8,11 @@ ghost use Rattle.encode_cli.specs.Put.{kept_and};
 ghost use Rattle.encode_cli.specs.Stop.{HasStopCause, counts};
 ghost use Rattle.encode_cli.specs.Visit.{output_name, outputs_of, line_of, accepted, refused, BrokenOff};
 
-use crate::account::account_of;
-use crate::codestream::empty_codestream;
 use crate::lines::{ok_line, refused_line};
 use crate::put::put_output;
 use crate::stop::Stop;
 use cine_ports::{Outputs, Report, say};
+use frame_encoder::encode;
 use pnm_frames::{Frame, FrameRefusal};
 use std::alloc::{AllocError, Global};
 
@@ -51,9 +50,8 @@ pub fn write_frame<O: Outputs, S: Report>(
         (counts 0 (O.faults outputs.new) (S.faults report.new)) result }
 {
     let output = output_name(alloc, name)?;
-    let made = empty_codestream(alloc, frame.width, frame.height)?;
-    let account = account_of(alloc, frame, &made)?;
-    let line = ok_line(alloc, name, account)?;
+    let made = encode(alloc, frame)?;
+    let line = ok_line(alloc, name, made.account)?;
     match put_output(outputs, output.as_str(), made.bytes.as_slice()) {
         Ok(()) => {}
         Err(fault) => return Err(Stop::of_outputs(fault)),

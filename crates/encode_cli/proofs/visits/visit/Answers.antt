@@ -8,7 +8,7 @@ use Rattle.pnm_frames.specs.View.{picture_of}
 use Rattle.encode_cli.specs.Put.{kept_and}
 use Rattle.encode_cli.specs.Visit.{accepted, refused, line_of, sizes_2k, BrokenOff}
 use Rattle.encode_cli.proofs.Faults.{fault_told, faulty, none_counted, of_told, stops_too}
-use Rattle.encode_cli.proofs.Packets.{within_limits}
+use Rattle.frame_encoder.proofs.Packets.{within_limits}
 use Rattle.encode_cli.proofs.Puts.{on_err}
 use Rattle.encode_cli.proofs.Told.{is_visit, breaks_at, none_added}
 use Rattle.encode_cli.proofs.visits.visit.Goals as goal

@@ -1,4 +1,4 @@
-use Rattle.std.proofs.Common.{◌≡◌, ◌∙◌, ap, option_map}
+use Rattle.std.proofs.Common.{◌∙◌, ap, option_map}
 use Rattle.std.proofs.lemmas.Option.{IfSome_then}
 use Rattle.cine_ports.specs.Moves.{said_with}
 use Rattle.pnm_frames.specs.Fault.{fault_of}

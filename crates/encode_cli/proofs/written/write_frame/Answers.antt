@@ -22,13 +22,13 @@ returns-in-Ok-say-clause-written g c =
 pub returns-in-Ok-say-clause-said : goal.returns-in-Ok-say-clause-said
 returns-in-Ok-say-clause-said g c =
     c.in-Ok-say.ensures.ok ∙ ap (λ bytes. option_map (said_with bytes) (g.S.Report.said c.args.report.now))
-    (c.as_bytes.ensures.value ∙ c.in_ok-line.ensures ∙ ap (ok_line c.args.name.now) c.in_ok-account.ensures)
+    (c.as_bytes.ensures.value ∙ c.in_ok-line.ensures ∙ ap (ok_line c.args.name.now) c.in_ok-made.ensures.account)
 
 pub returns-clause-err : goal.returns-clause-err
 returns-clause-err g c =
     let p = picture_of c.args.frame.now in
     let said : c.as_bytes.result.now ≡ line_of (accepted c.args.name.now c.args.frame.now) =
-    c.as_bytes.ensures.value ∙ c.in_ok-line.ensures ∙ ap (ok_line c.args.name.now) c.in_ok-account.ensures in
+    c.as_bytes.ensures.value ∙ c.in_ok-line.ensures ∙ ap (ok_line c.args.name.now) c.in_ok-made.ensures.account in
     say_broken (accepted c.args.name.now c.args.frame.now) c.as_bytes.result.now
     (g.O.Outputs.kept c.args.outputs.now) (g.O.Outputs.kept c.put_output.new.outputs) (g.S.Report.said c.args.report.now) (g.S.Report.said c.say.new.report)
     said

@@ -3,10 +3,9 @@ use Rattle.std.proofs.Common.{◌≡◌, ℕ, zero, suc, ◌+◌, ◌*◌, ◌<�
 use Rattle.std.proofs.lemmas.List.{length-replicate}
 use Rattle.band_geometry.specs.Sizes.{precinct_count}
 use Rattle.pnm_frames.specs.Picture.{Picture}
-use Rattle.encode_cli.specs.Fields.{segment}
-use Rattle.encode_cli.specs.MainHeader.{main_header}
-use Rattle.encode_cli.specs.Codestream.{codestream, empty_parts, packet_count, part_length, tile_part, eoc}
-use Rattle.encode_cli.specs.Visit.{IsWithinLimits}
+use Rattle.cinema_markers.specs.MainHeader.{main_header_of}
+use Rattle.frame_encoder.specs.Codestream.{codestream, empty_parts, header_2k, packet_count, part_length, tile_part, eoc}
+use Rattle.frame_encoder.specs.Encoded.{IsWithinLimits}
 
 -- a product of numbers that have bounds
 product_within : (a b m n : ℕ) → a ≤ m → b ≤ n → a * b ≤ m * n
@@ -50,16 +49,18 @@ length_of_part : (i : ℕ) (packets : List ℕ) → length (tile_part i 3 packet
 length_of_part i packets = omega arith
 
 -- the length of a main header with three tile-parts
-length_of_main : (w h a b c : ℕ) → length (main_header w h (a ∷ b ∷ c ∷ [])) ≡ 129
+length_of_main : (w h a b c : ℕ) → length (main_header_of (header_2k w h (a ∷ b ∷ c ∷ []))) ≡ 129
+unfolding main_header_of
 length_of_main w h a b c = refl
 
 -- a codestream of empty packets is short
 pub empty_short : (w h n : ℕ) → n ≤ 240 → length (codestream w h (empty_parts n)) ≤ 893
+unfolding codestream
 empty_short w h n k =
     let packets = replicate n 0 in
     let counted : length packets ≡ n = length-replicate n 0 in
     let size = part_length packets in
-    let whole = length_of_five (main_header w h (size ∷ size ∷ size ∷ [])) (tile_part 0 3 packets) (tile_part 1 3 packets) (tile_part 2 3 packets) (segment eoc) in
+    let whole = length_of_five (main_header_of (header_2k w h (size ∷ size ∷ size ∷ []))) (tile_part 0 3 packets) (tile_part 1 3 packets) (tile_part 2 3 packets) eoc in
     let main = length_of_main w h size size size in
     let first = length_of_part 0 packets in
     let second = length_of_part 1 packets in
@@ -68,6 +69,7 @@ empty_short w h n k =
 
 -- the packets of a component
 pub count_few : (w h : ℕ) → w ≤ 2048 → h ≤ 1080 → packet_count w h ≤ 240
+unfolding packet_count
 count_few w h p q =
     six _ _ _ _ _ _ (precincts_few w h 0 p q (lit< tt)) (precincts_few w h 1 p q (lit< tt)) (precincts_few w h 2 p q (lit< tt))
     (precincts_few w h 3 p q (lit< tt)) (precincts_few w h 4 p q (lit< tt)) (precincts_few w h 5 p q (lit< tt))

@@ -1,5 +1,5 @@
 use Rattle.std.proofs.Common.{◌≡◌, ◌++◌, replicate}
-use Rattle.encode_cli.proofs.codestream.push_empty_part.Given as goal
+use Rattle.frame_encoder.proofs.codestream.push_empty_part.Given as goal
 
 -- the head, and the packets so far
 abbrev pub invariant-loop-packet : goal.invariant-loop-packet

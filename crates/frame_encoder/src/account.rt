@@ -1,10 +1,10 @@
 // What the line of a written frame tells.
-ghost use Rattle.std.specs.Prelude.{◌≡◌, ◌≤◌, ◌+◌, length, replicate, IfOk};
+ghost use Rattle.std.specs.Prelude.{◌≡◌, ◌≤◌, length, replicate, IfOk};
 ghost use Rattle.pnm_frames.specs.View.{picture_of};
-ghost use Rattle.encode_cli.specs.declared.limits.TheConstants.{FRAME_LIMIT};
-ghost use Rattle.encode_cli.specs.Codestream.{packet_count, part_length};
-ghost use Rattle.encode_cli.specs.Distortion.{empty_distortion};
-ghost use Rattle.encode_cli.specs.Visit.{empty_codestream_of, account_of};
+ghost use Rattle.frame_encoder.specs.declared.limits.TheConstants.{FRAME_LIMIT};
+ghost use Rattle.frame_encoder.specs.Codestream.{packet_count, part_length};
+ghost use Rattle.frame_encoder.specs.Distortion.{empty_distortion};
+ghost use Rattle.frame_encoder.specs.Encoded.{empty_codestream_of, account_of};
 
 use crate::codestream::EmptyCodestream;
 use band_geometry::Geometry;
@@ -51,6 +51,7 @@ fn empty_distortion(alloc: Global, frame: &Frame) -> Result<u128, AllocError>
 }
 
 /// What is told of a frame whose codestream this is.
+#[tactic(auto, unfolding(crate::specs::Encoded::account_of))]
 pub fn account_of(
     alloc: Global,
     frame: &Frame,

@@ -1,8 +1,8 @@
 use Rattle.std.proofs.Common.{◌≤◌, subst}
 use Rattle.cine_nums.specs.declared.profile.Profile.{Profile}
 use Rattle.cine_nums.specs.Profile.{max_width_of, max_height_of}
-use Rattle.encode_cli.proofs.Packets.{precincts_few}
-use Rattle.encode_cli.proofs.codestream.packets_at.Goals as goal
+use Rattle.frame_encoder.proofs.Packets.{precincts_few}
+use Rattle.frame_encoder.proofs.codestream.packets_at.Goals as goal
 
 pub returns-clause-few : goal.returns-clause-few
 returns-clause-few c =

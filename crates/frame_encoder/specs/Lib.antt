@@ -1,0 +1,3 @@
+pub mod Codestream
+pub mod Distortion
+pub mod Encoded
