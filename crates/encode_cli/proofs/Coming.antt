@@ -1,14 +1,14 @@
 -- How a run comes on, frame by frame.
 use Rattle.std.proofs.Common.{◌≡◌, ℕ, zero, suc, ◌+◌, ◌≤◌, ◌||◌, Bool, true, false, List, [], ◌∷◌, ◌++◌, Option, Some, None, IfSome, length, map, take, slice_get, option_map, refl, sym, ◌∙◌, ap, subst, arith, length-append, add-one}
 use Rattle.std.specs.Option.{ForSome}
-use Rattle.std.specs.List.{flat_map, list_any, AllByRecursion}
+use Rattle.std.specs.List.{flat_map, list_any}
 use Rattle.std.proofs.lemmas.List.{append-nil}
 use Rattle.std.proofs.lemmas.Grind.{flat_map-append}
 use Rattle.cine_ports.specs.Outputs.{Kept, kept_nothing}
 use Rattle.cine_ports.specs.Source.{File}
 use Rattle.cine_ports.specs.Moves.{said_with}
 use Rattle.encode_cli.specs.Put.{kept_and}
-use Rattle.encode_cli.specs.Visit.{Visit, outputs_of, line_of, is_refused, IsWritable, Point, Before, kept_at, said_at}
+use Rattle.encode_cli.specs.Visit.{Visit, outputs_of, line_of, is_refused, Point, Before, kept_at, said_at}
 use Rattle.encode_cli.specs.Progress.{kept_after, said_after, visits_of, HasCome, HasVisited, BreaksOffAt, IsBroken, IsPointAt}
 
 -- one more of a list's front
@@ -49,11 +49,6 @@ told_more : (files : Option (List File)) (visits : List Visit) (v : Visit) (i : 
 told_more None visits v i p q = tt
 told_more (Some files) visits v i p q = ap (λ vs. vs ++ v ∷ []) p ∙ sym (take_one_more (visits_of files) i v q)
 
--- frames within the limits, and one more
-all_more : (visits : List Visit) (v : Visit) → AllByRecursion IsWritable visits → IsWritable v → AllByRecursion IsWritable (visits ++ v ∷ [])
-all_more [] v all one = (one, tt)
-all_more (u ∷ visits) v all one = (all.0, all_more visits v all.1 one)
-
 -- outputs that hold nothing
 kept_none : (k : Option Kept) → ForSome k (λ kept. kept ≡ kept_nothing) → k ≡ option_map (λ kept. kept_after []) k
 kept_none None h = refl
@@ -74,7 +69,6 @@ come_none names files k s none nothing = record {
   kept = kept_none k none;
   said = said_none s nothing;
   refused = refl;
-  within = tt;
 }
   where
     none_told : (files : Option (List File)) → IfSome files (λ files. [] ≡ take 0 (visits_of files))
@@ -95,7 +89,6 @@ come_more names files i k0 k1 k2 s0 s1 s2 some one come next = record {
   refused =
       ap (λ b. b || one) come.refused ∙ ap (λ b. list_any is_refused come.visits || b) next.refused
       ∙ sym (any_one_more is_refused come.visits next.visit);
-  within = all_more come.visits next.visit come.within next.within;
 }
 
 -- nothing is unfinished between two frames

@@ -1,11 +1,11 @@
 -- How far a run has come, and what it leaves in the end.
 use Rattle.std.specs.Prelude.{ℕ, ◌≡◌, ◌≤◌, Bool, List, Option, Some, None, IfSome, length, map, take, slice_get, option_map}
-use Rattle.std.specs.List.{flat_map, list_any, AllByRecursion}
+use Rattle.std.specs.List.{flat_map, list_any}
 use Rattle.cine_ports.specs.Source.{File}
 use Rattle.cine_ports.specs.Outputs.{Kept}
 use Rattle.cine_ports.specs.Moves.{said_with}
 use Rattle.encode_cli.specs.Put.{kept_and}
-use Rattle.encode_cli.specs.Visit.{Visit, visit_of, outputs_of, line_of, is_refused, IsWritable, Point, Before, Writing, Saying, IsPoint, kept_at, said_at}
+use Rattle.encode_cli.specs.Visit.{Visit, visit_of, outputs_of, line_of, is_refused, Point, Before, Writing, Saying, IsPoint, kept_at, said_at}
 
 -- the outputs after these frames, which are all finished
 abbrev pub kept_after : List Visit → Kept
@@ -46,7 +46,6 @@ pub record HasVisited (names : List (List ℕ)) (files : Option (List File)) (i 
   pub kept : kept_now ≡ option_map (kept_and (outputs_of visit)) kept_before
   pub said : said_now ≡ option_map (said_with (line_of visit)) said_before
   pub refused : is_refused_one ≡ is_refused visit
-  pub within : IsWritable visit
 
 -- A run has come as far as place i: frames before it are written and said, and none else.
 pub record HasCome (names : List (List ℕ)) (files : Option (List File)) (i : ℕ) (kept_before kept_now : Option Kept) (said_before said_now : Option (List ℕ)) (some_refused : Bool) : Type 0 where
@@ -57,7 +56,6 @@ pub record HasCome (names : List (List ℕ)) (files : Option (List File)) (i : �
   pub kept : kept_now ≡ option_map (λ kept. kept_after visits) kept_before
   pub said : said_now ≡ option_map (λ said. said_after visits) said_before
   pub refused : some_refused ≡ list_any is_refused visits
-  pub within : AllByRecursion IsWritable visits
 
 -- A run was broken off at place n: the frames before it are written and said, and it came to a point with the next.
 pub record IsBroken (files : Option (List File)) (n : ℕ) (kept_before kept_now : Option Kept) (said_before said_now : Option (List ℕ)) : Type 0 where

@@ -28,6 +28,7 @@ fn visited_status(some_refused: bool) -> u8
 /// The answer is the status: 0 where all frames were visited and none was refused, 1 where all were and some
 /// was, 2 where the words are no command, 3, 4 and 5 where a call of the source, the outputs and the report
 /// failed, and 6 where memory was wanting. A fault or want of memory ends the run at once.
+#[tactic(auto, using(crate::proofs::Limits::all_within))]
 pub fn run<F: Frames, O: Outputs, S: Report>(
     alloc: Global,
     words: &[String],
@@ -55,8 +56,8 @@ pub fn run<F: Frames, O: Outputs, S: Report>(
     ensures refusals { result ≤ 1 → (files : List File) → (F.source frames.old).files ≡ Some files →
         ((result ≡ 1) ↔ IsTrue (list_any is_refused (visits_of files))) }
 
-    // Every codestream that is written is within the byte limits.
-    ensures limits { result ≤ 1 → (files : List File) → (F.source frames.old).files ≡ Some files →
+    // Whatever the status, every codestream that is written is within the byte limits.
+    ensures limits { (files : List File) → (F.source frames.old).files ≡ Some files →
         AllByRecursion IsWritable (visits_of files) }
 
     // Status 3 to 6: the run broke off at the frame that was asked for last.

@@ -2,6 +2,7 @@
 ghost use Rattle.std.specs.Prelude.{◌≤◌};
 
 use crate::run::run;
+use crate::words::places;
 use cine_ports::{
     FolderFrames, FolderOutputs, MemoryFrame, MemoryFrames, MemoryOutputs, MemoryReport,
     is_frame_list,
@@ -204,6 +205,8 @@ fn other_words_are_no_command(rt: HostRuntime) -> Result<(), Fail> {
     ] {
         let ended = run_over(alloc, text, Vec::new(alloc), &[], &[])?;
         assert_eq!(rt; ended.status, 2);
+        let words = words(alloc, text)?;
+        assert!(rt; places(alloc, words.as_slice())?.is_none());
     }
     Ok(())
 }

@@ -65,7 +65,7 @@ fn visit<F: Frames, O: Outputs, S: Report>(
     }
 }
 
-/// Whether one or the other holds.
+/// Whether one or the other holds: a call, so that the loop over the frames can cite its clause.
 fn either(one: bool, other: bool) -> bool
     ensures { result ≡ (one || other) }
 {

@@ -8,7 +8,6 @@ use Rattle.pnm_frames.specs.View.{picture_of}
 use Rattle.encode_cli.specs.Put.{kept_and}
 use Rattle.encode_cli.specs.Visit.{accepted, refused, line_of, sizes_2k, BrokenOff}
 use Rattle.encode_cli.proofs.Faults.{fault_told, faulty, none_counted, of_told, stops_too}
-use Rattle.frame_encoder.proofs.Packets.{within_limits}
 use Rattle.encode_cli.proofs.Puts.{on_err}
 use Rattle.encode_cli.proofs.Told.{is_visit, breaks_at, none_added}
 use Rattle.encode_cli.proofs.visits.visit.Goals as goal
@@ -33,7 +32,6 @@ returns-in_ok-write_frame-in-Ok-read_frame-clause-ok g c = record {
   kept = c.in_ok-write_frame-in-Ok-read_frame.ensures.written;
   said = c.in_ok-write_frame-in-Ok-read_frame.ensures.said;
   refused = refl;
-  within = within_limits (picture_of c.in-Ok-read_frame.frame) c.in-Ok-read_frame.ensures.sizes.width_in_limits c.in-Ok-read_frame.ensures.sizes.height_in_limits;
 }
 
 pub returns-in_err-refuse-in_default-clause-err : goal.returns-in_err-refuse-in_default-clause-err
@@ -73,7 +71,6 @@ returns-in_ok-refuse-in_default-clause-ok g c =
       kept = sym (none_added (g.O.Outputs.kept c.args.outputs.now) c.requires.at_rest);
       said = of_told (λ (f : Fault). g.S.Report.said c.refuse.new.report ≡ option_map (said_with (line_of (refused c.name-in_default.result.now f))) (g.S.Report.said c.args.report.now)) (fault_of refusal) told.0 told.1 c.in_ok-refuse-in_default.ensures.said;
       refused = refl;
-      within = tt;
     }
 
 pub returns-in_ok-refuse-in_default-clause-cause : goal.returns-in_ok-refuse-in_default-clause-cause
