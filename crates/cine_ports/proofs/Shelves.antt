@@ -1,6 +1,7 @@
 -- Bytes that leave a file in memory.
-use Rattle.std.proofs.Common.{ℕ, Bool, true, false, ◌≡◌, ◌≤◌, ◌+◌, ◌∙◌, List, ◌++◌, length, take, drop, IsTrue, ap, sym}
-use Rattle.std.proofs.lemmas.List.{take-append-le, take-append-drop, drop-drop}
+use Rattle.std.proofs.Common.{ℕ, Bool, true, false, ◌≡◌, ◌≤◌, ◌<◌, ◌+◌, ◌∙◌, List, [], ◌++◌, Some, length, map, take, drop, slice_get, IsTrue, ap, sym, arith, refl}
+use Rattle.std.proofs.lemmas.List.{take-append-le, take-append-drop, drop-drop, length-map}
+use Rattle.std.proofs.lemmas.Option.{slice_get-get_or}
 use Rattle.cine_ports.specs.Source.{File}
 use Rattle.cine_ports.specs.Memory.{bytes_at, bytes_left}
 
@@ -16,3 +17,12 @@ left-moved true files asked at n part rest begun within moved =
   where
     bytes : List ℕ
     bytes = bytes_at files asked
+
+-- of a file that is begun at its front all bytes are left
+pub left-whole : (is_begun : Bool) (files : List File) (i : ℕ) → IsTrue is_begun → i < length files →
+    slice_get (map (λ file. file.bytes) files) i ≡ Some (bytes_left is_begun files i 0)
+left-whole false files i begun within = cc
+left-whole true files i begun within =
+    let len = length-map files (λ file. file.bytes) in
+    let there : i < length (map (λ file. file.bytes) files) = omega (arith, len) in
+    slice_get-get_or (map (λ file. file.bytes) files) i [] there

@@ -4,4 +4,5 @@ pub mod Memory
 pub mod Moves
 pub mod Names
 pub mod Outputs
+pub mod Plan
 pub mod Source

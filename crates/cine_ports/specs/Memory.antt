@@ -1,7 +1,8 @@
 -- Files that lie in memory.
 use Rattle.std.specs.Prelude.{ℕ, Bool, true, false, List, [], Some, map, drop, slice_index_or}
 use Rattle.cine_ports.specs.Outputs.{Kept}
-use Rattle.cine_ports.specs.Source.{File, Source, Reading}
+use Rattle.cine_ports.specs.Plan.{Plan}
+use Rattle.cine_ports.specs.Source.{File, Source, Reading, IsUnlisted}
 
 -- the names of files in order, once they are listed
 abbrev pub names_listed : Bool → List File → List (List ℕ)
@@ -35,25 +36,24 @@ nothing_begun = record { asked = 0; is_begun = false; left = [] }
 pub record Steady : Type 0 where
   pub source : Source
   pub reading : Reading
+  pub unlisted : IsUnlisted source reading
 
--- frames in memory, how many calls of them failed, and the numbers of those that are to fail
+-- frames in memory, how many calls of them failed, and which are to fail
 pub record FailingFrames : Type 0 where
   pub source : Source
   pub reading : Reading
+  pub unlisted : IsUnlisted source reading
   pub faults : ℕ
-  pub calls : ℕ
-  pub failing : List ℕ
+  pub plan : Plan
 
 -- outputs in memory, likewise
 pub record FailingOutputs : Type 0 where
   pub kept : Kept
   pub faults : ℕ
-  pub calls : ℕ
-  pub failing : List ℕ
+  pub plan : Plan
 
 -- a report in memory, likewise
 pub record FailingReport : Type 0 where
   pub said : List ℕ
   pub faults : ℕ
-  pub calls : ℕ
-  pub failing : List ℕ
+  pub plan : Plan

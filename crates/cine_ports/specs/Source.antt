@@ -1,5 +1,5 @@
 -- What a source of frames keeps.
-use Rattle.std.specs.Prelude.{ℕ, Bool, List, Option}
+use Rattle.std.specs.Prelude.{ℕ, ◌≡◌, Bool, false, List, [], Option}
 
 -- a file: its name, which for a frame has no suffix, and its bytes
 pub record File : Type 0 where
@@ -23,3 +23,7 @@ pub record Reading : Type 0 where
   pub is_begun : Bool
   -- the bytes of the begun frame that are still to be read, where the source tells its files
   pub left : List ℕ
+
+-- a source that isn't listed has no names, and no frame of it was asked for
+abbrev pub IsUnlisted : Source → Reading → Type 0
+IsUnlisted source reading = source.is_listed ≡ false → (source.names ≡ []) × (reading.asked ≡ 0)

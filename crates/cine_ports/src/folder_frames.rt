@@ -1,8 +1,9 @@
 // Frames that lie in a folder.
-ghost use Rattle.std.specs.Prelude.{List, ℕ, map, IfSome, IfNone};
+ghost use Rattle.std.specs.Prelude.{List, ℕ, is_some, map, IfSome, IfNone};
 ghost use Rattle.std.specs.String.{string_bytes};
-ghost use Rattle.cine_ports.specs.Folder.{IsStem};
+ghost use Rattle.cine_ports.specs.Folder.{IsStem, untold_source, untold_reading};
 ghost use Rattle.cine_ports.specs.Names.{IsNameList};
+ghost use Rattle.cine_ports.specs.Source.{IsUnlisted};
 
 use crate::fault_count::FaultCount;
 use crate::names::is_name_list;
@@ -29,6 +30,7 @@ pub struct FolderFrames<R: Files + AllocGlobal + Clone + Drop> {
     file: Option<R::File>,
     pub(crate) faults: FaultCount,
     ghost in_order: { IsNameList (map string_bytes names.items) },
+    ghost unlisted: { IsUnlisted (untold_source is_listed (map string_bytes names.items)) (untold_reading asked (is_some file)) },
 }
 
 impl<R: Files + AllocGlobal + Clone + Drop> FolderFrames<R> {
@@ -114,14 +116,13 @@ fn open_frame<R: Files + AllocGlobal>(
 }
 
 impl<R: Files + AllocGlobal + Clone + Drop> Frames for FolderFrames<R> {
-    ghost use Rattle.std.specs.Prelude.{is_some};
-    ghost use Rattle.cine_ports.specs.Folder.{untold_source, untold_reading};
-
     ghost source = { λ f. untold_source f.is_listed (map string_bytes f.names.items) };
 
     ghost reading = { λ f. untold_reading f.asked (is_some f.file) };
 
     ghost faults = { λ f. f.faults.count };
+
+    ghost unlisted = { λ f. f.unlisted };
 
     fn list(&mut self) -> Result<(), PortFault> {
         if self.is_listed {

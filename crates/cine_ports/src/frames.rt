@@ -1,7 +1,9 @@
 // Where frames come from.
-ghost use Rattle.std.specs.Prelude.{[], false, ◌≡◌, ◌<◌, ◌≤◌, ◌++◌, ℕ, length, take, map, slice_get, IsTrue, IsSome, IfOk, IfSome, OnOk, OnErr};
+ghost use Rattle.std.specs.Prelude.{[], false, ⊤, ◌≡◌, ◌<◌, ◌≤◌, ◌++◌, ℕ, length, take, map, slice_get, Result, IsTrue, IsSome, IfOk, IfSome, OnOk, OnErr};
+ghost use Rattle.cine_ports.specs.declared.fault.Failed.{Failed};
+ghost use Rattle.cine_ports.specs.declared.fault.PortFault.{PortFault};
 ghost use Rattle.cine_ports.specs.Cause.{HasCause, HasFaultCause};
-ghost use Rattle.cine_ports.specs.Source.{Source, Reading};
+ghost use Rattle.cine_ports.specs.Source.{Source, Reading, IsUnlisted};
 ghost use Rattle.cine_ports.specs.Names.{IsNameList};
 
 use crate::fault::{Failed, PortFault};
@@ -20,6 +22,15 @@ pub trait Frames {
     /// How often a call failed.
     ghost faults: { Self → ℕ };
 
+    /// What an object says besides of `list`: of itself before and after, and of the answer.
+    ghost list_gives: { Self → Self → Result Unit PortFault → Type 0 } = { λ _ _ _. ⊤ };
+
+    /// The same of `begin`.
+    ghost begin_gives: { Self → Self → Result Unit PortFault → Type 0 } = { λ _ _ _. ⊤ };
+
+    /// The same of `read`, where the third is how long the buffer is.
+    ghost read_gives: { Self → Self → ℕ → Result ℕ Failed → Type 0 } = { λ _ _ _ _. ⊤ };
+
     /// Lists the names, which stay from then on.
     ///
     /// A source of 2^32 names or more is a fault.
@@ -33,7 +44,8 @@ pub trait Frames {
         ensures err { OnErr result (source self.new ≡ source self.old) }
         ensures files { (source self.new).files ≡ (source self.old).files }
         ensures reading { reading self.new ≡ reading self.old }
-        ensures cause { HasCause (faults self.old) (faults self.new) result };
+        ensures cause { HasCause (faults self.old) (faults self.new) result }
+        ensures gives { list_gives self.old self.new result };
 
     /// How many names were listed.
     fn count(&self) -> u32
@@ -56,7 +68,8 @@ pub trait Frames {
         ensures err { OnErr result ((reading self.new).is_begun ≡ false) }
         ensures asked { (reading self.new).asked ≡ i }
         ensures source { source self.new ≡ source self.old }
-        ensures cause { HasCause (faults self.old) (faults self.new) result };
+        ensures cause { HasCause (faults self.old) (faults self.new) result }
+        ensures gives { begin_gives self.old self.new result };
 
     /// Moves bytes from the front of what is left into the buffer, and answers how many.
     ///
@@ -73,5 +86,9 @@ pub trait Frames {
         ensures begun { IsTrue (reading self.new).is_begun }
         ensures asked { (reading self.new).asked ≡ (reading self.old).asked }
         ensures source { source self.new ≡ source self.old }
-        ensures cause { HasFaultCause (faults self.old) (faults self.new) result };
+        ensures cause { HasFaultCause (faults self.old) (faults self.new) result }
+        ensures gives { read_gives self.old self.new (length buf.old) result };
+
+    /// Until `list` answered Ok there are no names, and no frame was asked for.
+    ghost unlisted: { (s : Self) → IsUnlisted (source s) (reading s) };
 }

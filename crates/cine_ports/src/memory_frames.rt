@@ -12,11 +12,9 @@ use std::marker::Model;
 pub struct MemoryFrames {
     shelf: Shelf,
     plan: FaultPlan,
-    piece: u32,
 }
 
 impl Model for MemoryFrames {
-    ghost use Rattle.std.specs.Prelude.{◌≤◌};
     ghost use Rattle.cine_ports.specs.Memory.{FailingFrames, told_source, told_reading};
 
     ghost Value = { FailingFrames };
@@ -24,18 +22,17 @@ impl Model for MemoryFrames {
     ghost view = { λ f. record {
       source = told_source f.shelf.files.items f.shelf.is_listed;
       reading = told_reading f.shelf.files.items f.shelf.asked f.shelf.is_begun f.shelf.at;
-      faults = f.plan.faults.count;
-      calls = f.plan.calls;
-      failing = f.plan.failing.items;
+      unlisted = f.shelf.unlisted;
+      faults = f.plan.faults;
+      plan = f.plan.plan;
     } };
-
-    ghost invariant = { λ f. 1 ≤ f.piece };
 }
 
 impl MemoryFrames {
     ghost use Rattle.std.specs.Prelude.{false, ◌≡◌, ◌≤◌, map};
     ghost use Rattle.cine_ports.specs.Memory.{told_source, nothing_begun};
     ghost use Rattle.cine_ports.specs.Names.{IsNameList};
+    ghost use Rattle.cine_ports.specs.Plan.{first_plan};
 
     /// Frames with these files, which are told. None is listed or begun.
     ///
@@ -46,23 +43,33 @@ impl MemoryFrames {
         ensures source { result.source ≡ told_source entries.items false }
         ensures reading { result.reading ≡ nothing_begun }
         ensures faults { result.faults ≡ 0 }
-        ensures calls { result.calls ≡ 0 }
-        ensures failing { result.failing ≡ failing.items }
+        ensures plan { result.plan ≡ first_plan failing.items piece }
     {
         MemoryFrames {
             shelf: Shelf::new(entries),
-            plan: FaultPlan::new(failing),
-            piece,
+            plan: FaultPlan::new(failing, piece),
         }
     }
 }
 
 impl Frames for MemoryFrames {
+    ghost use Rattle.std.specs.Prelude.{◌≡◌, length, min, IsErr, IfOk};
+    ghost use Rattle.cine_ports.specs.Plan.{IsNumbered, IsFailed, HasMemory};
+
     ghost source = { λ f. f.source };
 
     ghost reading = { λ f. f.reading };
 
     ghost faults = { λ f. f.faults };
+
+    ghost unlisted = { λ f. f.unlisted };
+
+    ghost list_gives = { λ old new result. IsNumbered old.plan new.plan (IsFailed result) × HasMemory result };
+
+    ghost begin_gives = { λ old new result. IsNumbered old.plan new.plan (IsFailed result) × HasMemory result };
+
+    ghost read_gives = { λ old new len result. IsNumbered old.plan new.plan (IsErr result)
+        × IfOk result (λ n. n ≡ min (length old.reading.left) (min len old.plan.piece)) };
 
     fn list(&mut self) -> Result<(), PortFault> {
         self.plan.next_call()?;
@@ -79,15 +86,15 @@ impl Frames for MemoryFrames {
     }
 
     fn begin(&mut self, i: u32) -> Result<(), PortFault> {
-        self.shelf.begin(i, false);
-        self.plan.next_call()?;
-        self.shelf.begin(i, true);
+        let planned = self.plan.next_call();
+        self.shelf.begin(i, planned.is_ok());
+        planned?;
         Ok(())
     }
 
     fn read(&mut self, buf: &mut [u8]) -> Result<usize, Failed> {
         self.plan.next_call()?;
-        let most = buf.len().min(self.piece as usize);
+        let most = self.plan.most(buf.len());
         Ok(self.shelf.read(&mut buf[..most]))
     }
 }

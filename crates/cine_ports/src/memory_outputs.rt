@@ -15,29 +15,27 @@ pub struct MemoryOutputs {
     finished: Vec<MemoryFrame>,
     unfinished: Option<MemoryFrame>,
     plan: FaultPlan,
-    piece: u32,
 }
 
 impl Model for MemoryOutputs {
-    ghost use Rattle.std.specs.Prelude.{◌<◌, ◌≤◌, IsSome, vec_len, vec_capacity};
+    ghost use Rattle.std.specs.Prelude.{◌<◌, IsSome, vec_len, vec_capacity};
     ghost use Rattle.cine_ports.specs.Memory.{FailingOutputs};
 
     ghost Value = { FailingOutputs };
 
     ghost view = { λ o. record {
       kept = record { finished = o.finished.items; unfinished = o.unfinished };
-      faults = o.plan.faults.count;
-      calls = o.plan.calls;
-      failing = o.plan.failing.items;
+      faults = o.plan.faults;
+      plan = o.plan.plan;
     } };
 
-    ghost invariant = { λ o. (1 ≤ o.piece)
-        × (IsSome o.unfinished → vec_len o.finished < vec_capacity o.finished) };
+    ghost invariant = { λ o. IsSome o.unfinished → vec_len o.finished < vec_capacity o.finished };
 }
 
 impl MemoryOutputs {
     ghost use Rattle.std.specs.Prelude.{◌≡◌, ◌≤◌, option_copied};
     ghost use Rattle.cine_ports.specs.Outputs.{kept_nothing};
+    ghost use Rattle.cine_ports.specs.Plan.{first_plan};
 
     /// Outputs of which nothing is finished or unfinished. This takes no memory.
     ///
@@ -46,15 +44,13 @@ impl MemoryOutputs {
         requires { 1 ≤ piece }
         ensures kept { result.kept ≡ kept_nothing }
         ensures faults { result.faults ≡ 0 }
-        ensures calls { result.calls ≡ 0 }
-        ensures failing { result.failing ≡ failing.items }
+        ensures plan { result.plan ≡ first_plan failing.items piece }
     {
         MemoryOutputs {
             alloc,
             finished: Vec::new(alloc),
             unfinished: None,
-            plan: FaultPlan::new(failing),
-            piece,
+            plan: FaultPlan::new(failing, piece),
         }
     }
 
@@ -74,13 +70,21 @@ impl MemoryOutputs {
 }
 
 impl Outputs for MemoryOutputs {
-    ghost use Rattle.std.specs.Prelude.{Some, is_some, refl};
+    ghost use Rattle.std.specs.Prelude.{◌≡◌, Some, is_some, refl, length, min, IfOk};
+    ghost use Rattle.cine_ports.specs.Plan.{IsNumbered, IsFailed, HasMemory};
 
     ghost kept = { λ o. Some o.kept };
 
     ghost is_open = { λ o. is_some o.kept.unfinished };
 
     ghost faults = { λ o. o.faults };
+
+    ghost begin_gives = { λ old new result. IsNumbered old.plan new.plan (IsFailed result) };
+
+    ghost write_gives = { λ old new piece result. IsNumbered old.plan new.plan (IsFailed result)
+        × IfOk result (λ n. n ≡ min (length piece) old.plan.piece) };
+
+    ghost finish_gives = { λ old new result. IsNumbered old.plan new.plan (IsFailed result) × HasMemory result };
 
     ghost open_told = { λ o. refl };
 
@@ -96,7 +100,7 @@ impl Outputs for MemoryOutputs {
 
     fn write(&mut self, piece: &[u8]) -> Result<usize, PortFault> {
         self.plan.next_call()?;
-        let n = piece.len().min(self.piece as usize);
+        let n = self.plan.most(piece.len());
         if let Some(file) = &mut self.unfinished {
             file.append(&piece[..n])?;
         }

@@ -12,27 +12,23 @@ use std::marker::Model;
 pub struct MemoryReport {
     bytes: Vec<u8>,
     plan: FaultPlan,
-    piece: u32,
 }
 
 impl Model for MemoryReport {
-    ghost use Rattle.std.specs.Prelude.{◌≤◌};
     ghost use Rattle.cine_ports.specs.Memory.{FailingReport};
 
     ghost Value = { FailingReport };
 
     ghost view = { λ r. record {
       said = r.bytes.items;
-      faults = r.plan.faults.count;
-      calls = r.plan.calls;
-      failing = r.plan.failing.items;
+      faults = r.plan.faults;
+      plan = r.plan.plan;
     } };
-
-    ghost invariant = { λ r. 1 ≤ r.piece };
 }
 
 impl MemoryReport {
     ghost use Rattle.std.specs.Prelude.{[], ◌≡◌, ◌≤◌};
+    ghost use Rattle.cine_ports.specs.Plan.{first_plan};
 
     /// A report to which nothing was written. This takes no memory.
     ///
@@ -41,13 +37,11 @@ impl MemoryReport {
         requires { 1 ≤ piece }
         ensures said { result.said ≡ [] }
         ensures faults { result.faults ≡ 0 }
-        ensures calls { result.calls ≡ 0 }
-        ensures failing { result.failing ≡ failing.items }
+        ensures plan { result.plan ≡ first_plan failing.items piece }
     {
         MemoryReport {
             bytes: Vec::new(alloc),
-            plan: FaultPlan::new(failing),
-            piece,
+            plan: FaultPlan::new(failing, piece),
         }
     }
 
@@ -60,15 +54,19 @@ impl MemoryReport {
 }
 
 impl Report for MemoryReport {
-    ghost use Rattle.std.specs.Prelude.{Some};
+    ghost use Rattle.std.specs.Prelude.{◌≡◌, Some, length, min, IfOk};
+    ghost use Rattle.cine_ports.specs.Plan.{IsNumbered, IsFailed};
 
     ghost said = { λ r. Some r.said };
 
     ghost faults = { λ r. r.faults };
 
+    ghost write_gives = { λ old new piece result. IsNumbered old.plan new.plan (IsFailed result)
+        × IfOk result (λ n. n ≡ min (length piece) old.plan.piece) };
+
     fn write(&mut self, piece: &[u8]) -> Result<usize, PortFault> {
         self.plan.next_call()?;
-        let n = piece.len().min(self.piece as usize);
+        let n = self.plan.most(piece.len());
         self.bytes.extend_from_slice(&piece[..n])?;
         Ok(n)
     }

@@ -19,13 +19,19 @@ impl NullOutputs {
 }
 
 impl Outputs for NullOutputs {
-    ghost use Rattle.std.specs.Prelude.{None};
+    ghost use Rattle.std.specs.Prelude.{◌≡◌, None, length, Ok, IsOk};
 
     ghost kept = { λ o. None };
 
     ghost is_open = { λ o. o.is_open };
 
     ghost faults = { λ o. 0 };
+
+    ghost begin_gives = { λ old new result. IsOk result };
+
+    ghost write_gives = { λ old new piece result. result ≡ Ok (length piece) };
+
+    ghost finish_gives = { λ old new result. IsOk result };
 
     ghost open_told = { λ o. tt };
 
@@ -49,11 +55,13 @@ impl Outputs for NullOutputs {
 pub struct NullReport;
 
 impl Report for NullReport {
-    ghost use Rattle.std.specs.Prelude.{None};
+    ghost use Rattle.std.specs.Prelude.{◌≡◌, None, length, Ok};
 
     ghost said = { λ r. None };
 
     ghost faults = { λ r. 0 };
+
+    ghost write_gives = { λ old new piece result. result ≡ Ok (length piece) };
 
     fn write(&mut self, piece: &[u8]) -> Result<usize, PortFault> {
         Ok(piece.len())

@@ -1,6 +1,7 @@
 // Where codestreams go.
-ghost use Rattle.std.specs.Prelude.{Bool, false, is_some, ◌≡◌, ◌<◌, ◌≤◌, ℕ, length, take, map, option_map, Contains, Option, IsTrue, IfOk, IfSome, OnOk, OnErr};
+ghost use Rattle.std.specs.Prelude.{Bool, false, ⊤, is_some, ◌≡◌, ◌<◌, ◌≤◌, ℕ, length, take, map, option_map, Contains, Option, List, Result, IsTrue, IfOk, IfSome, OnOk, OnErr};
 ghost use Rattle.std.specs.Option.{ForSome};
+ghost use Rattle.cine_ports.specs.declared.fault.PortFault.{PortFault};
 ghost use Rattle.cine_ports.specs.Cause.{HasCause};
 ghost use Rattle.cine_ports.specs.Outputs.{Kept, with_begun, with_more, with_finished};
 
@@ -20,6 +21,15 @@ pub trait Outputs {
     /// How often a call failed.
     ghost faults: { Self → ℕ };
 
+    /// What an object says besides of `begin`: of itself before and after, and of the answer.
+    ghost begin_gives: { Self → Self → Result Unit PortFault → Type 0 } = { λ _ _ _. ⊤ };
+
+    /// The same of `write`, where the third is the piece.
+    ghost write_gives: { Self → Self → List ℕ → Result ℕ PortFault → Type 0 } = { λ _ _ _ _. ⊤ };
+
+    /// The same of `finish`.
+    ghost finish_gives: { Self → Self → Result Unit PortFault → Type 0 } = { λ _ _ _. ⊤ };
+
     /// Begins a file of this name, which has no bytes yet.
     fn begin(&mut self, name: &str) -> Result<(), PortFault>
         requires closed { is_open self.old ≡ false }
@@ -28,7 +38,8 @@ pub trait Outputs {
         ensures ok { OnOk result (kept self.new ≡ option_map (with_begun name.now) (kept self.old)) }
         ensures opened { OnOk result (IsTrue (is_open self.new)) }
         ensures err { OnErr result ((kept self.new ≡ kept self.old) × (is_open self.new ≡ false)) }
-        ensures cause { HasCause (faults self.old) (faults self.new) result };
+        ensures cause { HasCause (faults self.old) (faults self.new) result }
+        ensures gives { begin_gives self.old self.new result };
 
     /// Appends a piece, or only its front, to the unfinished file, and answers how many bytes.
     ///
@@ -41,7 +52,8 @@ pub trait Outputs {
             kept self.new ≡ option_map (with_more (take n piece.now)) (kept self.old)) }
         ensures err { OnErr result (kept self.new ≡ kept self.old) }
         ensures open { IsTrue (is_open self.new) }
-        ensures cause { HasCause (faults self.old) (faults self.new) result };
+        ensures cause { HasCause (faults self.old) (faults self.new) result }
+        ensures gives { write_gives self.old self.new piece.now result };
 
     /// Finishes the unfinished file, which then stands behind the other finished ones.
     fn finish(&mut self) -> Result<(), PortFault>
@@ -49,7 +61,8 @@ pub trait Outputs {
         ensures ok { OnOk result (kept self.new ≡ option_map with_finished (kept self.old)) }
         ensures closed { OnOk result (is_open self.new ≡ false) }
         ensures err { OnErr result ((kept self.new ≡ kept self.old) × IsTrue (is_open self.new)) }
-        ensures cause { HasCause (faults self.old) (faults self.new) result };
+        ensures cause { HasCause (faults self.old) (faults self.new) result }
+        ensures gives { finish_gives self.old self.new result };
 
     /// Where the files are told, one of them is unfinished exactly where the object is open.
     ghost open_told: { (s : Self) → IfSome (kept s) (λ files. is_open s ≡ is_some files.unfinished) };

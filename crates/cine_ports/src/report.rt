@@ -1,5 +1,6 @@
 // Where the lines of a run go.
-ghost use Rattle.std.specs.Prelude.{◌≡◌, ◌<◌, ◌≤◌, ◌++◌, ℕ, List, Option, length, take, option_map, IfOk, OnErr};
+ghost use Rattle.std.specs.Prelude.{⊤, ◌≡◌, ◌<◌, ◌≤◌, ◌++◌, ℕ, List, Option, Result, length, take, option_map, IfOk, OnErr};
+ghost use Rattle.cine_ports.specs.declared.fault.PortFault.{PortFault};
 ghost use Rattle.cine_ports.specs.Cause.{HasCause};
 
 use crate::fault::PortFault;
@@ -14,6 +15,9 @@ pub trait Report {
     /// How often a call failed.
     ghost faults: { Self → ℕ };
 
+    /// What an object says besides of `write`: of itself before and after, of the piece, and of the answer.
+    ghost write_gives: { Self → Self → List ℕ → Result ℕ PortFault → Type 0 } = { λ _ _ _ _. ⊤ };
+
     /// Appends a piece, or only its front, and answers how many bytes.
     ///
     /// Of a piece that isn't empty at least one byte is appended. A refused call appends nothing.
@@ -23,5 +27,6 @@ pub trait Report {
         ensures appended { IfOk result (λ n.
             said self.new ≡ option_map (λ bytes. bytes ++ take n piece.now) (said self.old)) }
         ensures err { OnErr result (said self.new ≡ said self.old) }
-        ensures cause { HasCause (faults self.old) (faults self.new) result };
+        ensures cause { HasCause (faults self.old) (faults self.new) result }
+        ensures gives { write_gives self.old self.new piece.now result };
 }

@@ -1,7 +1,8 @@
 // Files in memory that are read one after the other.
 ghost use Rattle.std.specs.Prelude.{[], ◌≡◌, ◌+◌, ◌++◌, ◌<◌, ◌≤◌, true, false, drop, length, map, min, take, slice_get, slice_index_or, IsTrue};
-ghost use Rattle.cine_ports.specs.Memory.{bytes_at, names_listed};
+ghost use Rattle.cine_ports.specs.Memory.{bytes_at, names_listed, told_source, told_reading};
 ghost use Rattle.cine_ports.specs.Names.{IsNameList};
+ghost use Rattle.cine_ports.specs.Source.{IsUnlisted};
 
 use crate::MemoryFrame;
 
@@ -14,6 +15,7 @@ pub(crate) struct Shelf {
     is_begun: bool,
     at: usize,
     ghost in_order: { IsNameList (map (λ file. file.name) files.items) },
+    ghost unlisted: { IsUnlisted (told_source files.items is_listed) (told_reading files.items asked is_begun at) },
     ghost in_list: { IsTrue is_begun → asked < length files.items },
     ghost in_file: { IsTrue is_begun → at ≤ length (bytes_at files.items asked) },
 }
@@ -37,7 +39,11 @@ impl Shelf {
     }
 
     pub(crate) fn list(&mut self)
-        ensures { self.new ≡ record self.old { is_listed = true } }
+        ensures files { self.new.files ≡ self.old.files }
+        ensures listed { IsTrue self.new.is_listed }
+        ensures asked { self.new.asked ≡ self.old.asked }
+        ensures begun { self.new.is_begun ≡ self.old.is_begun }
+        ensures at { self.new.at ≡ self.old.at }
     {
         self.is_listed = true;
     }
@@ -61,7 +67,7 @@ impl Shelf {
 
     /// Begins a file, or notes that it was asked for and isn't begun.
     pub(crate) fn begin(&mut self, i: u32, is_begun: bool)
-        requires { i < length self.old.files.items }
+        requires { i < length (names_listed self.old.is_listed self.old.files.items) }
         ensures files { self.new.files ≡ self.old.files }
         ensures listed { self.new.is_listed ≡ self.old.is_listed }
         ensures asked { self.new.asked ≡ i }

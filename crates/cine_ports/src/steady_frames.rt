@@ -17,6 +17,7 @@ impl Model for SteadyFrames {
     ghost view = { λ f. record {
       source = told_source f.shelf.files.items f.shelf.is_listed;
       reading = told_reading f.shelf.files.items f.shelf.asked f.shelf.is_begun f.shelf.at;
+      unlisted = f.shelf.unlisted;
     } };
 }
 
@@ -38,11 +39,21 @@ impl SteadyFrames {
 }
 
 impl Frames for SteadyFrames {
+    ghost use Rattle.std.specs.Prelude.{◌≡◌, length, min, Ok, IsOk};
+
     ghost source = { λ f. f.source };
 
     ghost reading = { λ f. f.reading };
 
     ghost faults = { λ f. 0 };
+
+    ghost unlisted = { λ f. f.unlisted };
+
+    ghost list_gives = { λ old new result. IsOk result };
+
+    ghost begin_gives = { λ old new result. IsOk result };
+
+    ghost read_gives = { λ old new len result. result ≡ Ok (min (length old.reading.left) len) };
 
     fn list(&mut self) -> Result<(), PortFault> {
         self.shelf.list();
