@@ -1,6 +1,7 @@
 // Frames that lie in a folder.
-ghost use Rattle.std.specs.Prelude.{List, ℕ, is_some, map, IfSome, IfNone};
-ghost use Rattle.std.specs.String.{string_bytes};
+ghost use Rattle.std.specs.Prelude.{◌<◌, List, ℕ, All, IsSorted, is_some, length, map, IfOk, IfSome, IfNone};
+ghost use Rattle.std.specs.Fs.{dir_entry_name};
+ghost use Rattle.std.specs.String.{string_bytes, string_cmp};
 ghost use Rattle.cine_ports.specs.Folder.{IsStem, untold_source, untold_reading};
 ghost use Rattle.cine_ports.specs.Names.{IsNameList};
 ghost use Rattle.cine_ports.specs.Source.{IsUnlisted};
@@ -76,7 +77,10 @@ fn frame_name<'a, R: Files + AllocGlobal>(
     rt: &R,
     entry: &'a DirEntry<R>,
     suffix: &str,
-) -> io::Result<Option<&'a str>> {
+) -> io::Result<Option<&'a str>>
+    ensures { IfOk result (λ found. IfSome found
+        (λ name. IsStem (dir_entry_name entry.now) suffix.now name.now)) }
+{
     match stem(entry.file_name(), suffix) {
         Some(name) => {
             let is_file = fs::metadata(rt, entry.path())?.is_file();
@@ -86,12 +90,15 @@ fn frame_name<'a, R: Files + AllocGlobal>(
     }
 }
 
-/// The names of the frames of a folder, sorted by their bytes.
+/// The names of the frames of a folder, sorted by their bytes. None is empty.
 fn frame_names<R: Files + AllocGlobal + Clone + Drop>(
     rt: &R,
     folder: &str,
     suffix: &str,
-) -> io::Result<Vec<String>> {
+) -> io::Result<Vec<String>>
+    ensures sorted { IfOk result (λ names. IsSorted string_cmp names.items) }
+    ensures not_empty { IfOk result (λ names. All (λ name. 0 < length (string_bytes name)) names.items) }
+{
     let alloc = rt.alloc();
     let mut names = Vec::new(alloc);
     for entry in fs::read_dir(rt, folder)? {
@@ -162,6 +169,7 @@ impl<R: Files + AllocGlobal + Clone + Drop> Frames for FolderFrames<R> {
         }
     }
 
+    /// Every error of the system is a fault here, want of memory too: a read has no other refusal.
     fn read(&mut self, buf: &mut [u8]) -> Result<usize, Failed> {
         match &mut self.file {
             Some(file) => match file.read(buf) {

@@ -20,12 +20,14 @@ impl Model for MemoryFrame {
 }
 
 impl MemoryFrame {
+    /// The name.
     pub fn name(&self) -> &str
         ensures { result.now ≡ self.now.name }
     {
         self.name.as_str()
     }
 
+    /// The bytes, from the first on.
     pub fn bytes(&self) -> &[u8]
         ensures { result.now ≡ self.now.bytes }
     {

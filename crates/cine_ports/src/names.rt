@@ -7,7 +7,6 @@ ghost use Rattle.std.specs.String.{string_bytes};
 ghost use Rattle.cine_ports.specs.Names.{IsNameList};
 
 use crate::MemoryFrame;
-use std::cmp::Ordering;
 
 /// The least number of names that a source can't have.
 const TOO_MANY: usize = 1 << 32;
@@ -16,10 +15,7 @@ const TOO_MANY: usize = 1 << 32;
 fn comes_before(a: &str, b: &str) -> bool
     ensures { IsTrue result ↔ (slice_cmp nat_cmp a.now b.now ≡ Less) }
 {
-    match a.cmp(b) {
-        Ordering::Less => true,
-        _ => false,
-    }
+    a < b
 }
 
 fn name_at(names: &[String], i: usize) -> &str
