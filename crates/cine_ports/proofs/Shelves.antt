@@ -1,5 +1,5 @@
 -- Bytes that leave a file in memory.
-use Rattle.std.proofs.Common.{ℕ, Bool, true, false, ◌≡◌, ◌≤◌, ◌<◌, ◌+◌, ◌∙◌, List, [], ◌++◌, Some, length, map, take, drop, slice_get, IsTrue, ap, sym, arith, refl}
+use Rattle.std.proofs.Common.{ℕ, Bool, true, false, ◌≡◌, ◌≤◌, ◌<◌, ◌+◌, ◌∙◌, List, [], ◌++◌, Some, length, map, take, drop, slice_get, IsTrue, ap, sym, arith}
 use Rattle.std.proofs.lemmas.List.{take-append-le, take-append-drop, drop-drop, length-map}
 use Rattle.std.proofs.lemmas.Option.{slice_get-get_or}
 use Rattle.cine_ports.specs.Source.{File}

@@ -36,12 +36,14 @@ nothing_begun = record { asked = 0; is_begun = false; left = [] }
 pub record Steady : Type 0 where
   pub source : Source
   pub reading : Reading
+  -- before the listing there are no names, and no frame was asked for
   pub unlisted : IsUnlisted source reading
 
 -- frames in memory, how many calls of them failed, and which are to fail
 pub record FailingFrames : Type 0 where
   pub source : Source
   pub reading : Reading
+  -- before the listing there are no names, and no frame was asked for
   pub unlisted : IsUnlisted source reading
   pub faults : ℕ
   pub plan : Plan

@@ -31,7 +31,8 @@ pub struct FolderFrames<R: Files + AllocGlobal + Clone + Drop> {
     file: Option<R::File>,
     pub(crate) faults: FaultCount,
     ghost in_order: { IsNameList (map string_bytes names.items) },
-    ghost unlisted: { IsUnlisted (untold_source is_listed (map string_bytes names.items)) (untold_reading asked (is_some file)) },
+    ghost unlisted: { IsUnlisted (untold_source is_listed (map string_bytes names.items))
+        (untold_reading asked (is_some file)) },
 }
 
 impl<R: Files + AllocGlobal + Clone + Drop> FolderFrames<R> {

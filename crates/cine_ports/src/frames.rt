@@ -22,13 +22,14 @@ pub trait Frames {
     /// How often a call failed.
     ghost faults: { Self → ℕ };
 
-    /// What an object says besides of `list`: of itself before and after, and of the answer.
+    /// What an object promises of `list` beyond this trait, of itself before and after and of the
+    /// answer. It is nothing where the object doesn't say it.
     ghost list_gives: { Self → Self → Result Unit PortFault → Type 0 } = { λ _ _ _. ⊤ };
 
     /// The same of `begin`.
     ghost begin_gives: { Self → Self → Result Unit PortFault → Type 0 } = { λ _ _ _. ⊤ };
 
-    /// The same of `read`, where the third is how long the buffer is.
+    /// The same of `read`, where the third is the buffer's length.
     ghost read_gives: { Self → Self → ℕ → Result ℕ Failed → Type 0 } = { λ _ _ _ _. ⊤ };
 
     /// Lists the names, which stay from then on.

@@ -7,7 +7,8 @@ use std::marker::Model;
 /// Frames in memory that are told, of which some calls fail, and which are read by pieces.
 ///
 /// The calls of `list`, `begin` and `read` are numbered together from 0. Exactly those whose number
-/// is among the failing ones answer Failed. None takes memory.
+/// is among the failing ones answer Failed. None takes memory. A read that isn't refused gives a
+/// whole piece, or what the buffer holds or the file has left where that is less.
 #[derive(Debug, Drop)]
 pub struct MemoryFrames {
     shelf: Shelf,
@@ -64,9 +65,11 @@ impl Frames for MemoryFrames {
 
     ghost unlisted = { λ f. f.unlisted };
 
-    ghost list_gives = { λ old new result. IsNumbered old.plan new.plan (IsFailed result) × HasMemory result };
+    ghost list_gives = { λ old new result.
+        IsNumbered old.plan new.plan (IsFailed result) × HasMemory result };
 
-    ghost begin_gives = { λ old new result. IsNumbered old.plan new.plan (IsFailed result) × HasMemory result };
+    ghost begin_gives = { λ old new result.
+        IsNumbered old.plan new.plan (IsFailed result) × HasMemory result };
 
     ghost read_gives = { λ old new len result. IsNumbered old.plan new.plan (IsErr result)
         × IfOk result (λ n. n ≡ min (length old.reading.left) (min len old.plan.piece)) };

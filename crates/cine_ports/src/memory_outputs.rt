@@ -7,8 +7,9 @@ use std::marker::Model;
 /// Outputs in memory that are told, of which some calls fail, and which take pieces.
 ///
 /// The calls of `begin`, `write` and `finish` are numbered together from 0. Exactly those whose
-/// number is among the failing ones answer Failed. `begin` makes the room that `finish` needs, so
-/// that `finish` takes no memory.
+/// number is among the failing ones answer Failed. A write that isn't refused takes a whole piece,
+/// or all that it is given where that is shorter. `begin` makes the room that `finish` needs, so that
+/// `finish` takes no memory.
 #[derive(Debug, Drop)]
 pub struct MemoryOutputs {
     alloc: Global,
@@ -84,7 +85,8 @@ impl Outputs for MemoryOutputs {
     ghost write_gives = { λ old new piece result. IsNumbered old.plan new.plan (IsFailed result)
         × IfOk result (λ n. n ≡ min (length piece) old.plan.piece) };
 
-    ghost finish_gives = { λ old new result. IsNumbered old.plan new.plan (IsFailed result) × HasMemory result };
+    ghost finish_gives = { λ old new result.
+        IsNumbered old.plan new.plan (IsFailed result) × HasMemory result };
 
     ghost open_told = { λ o. refl };
 

@@ -7,7 +7,8 @@ use std::marker::Model;
 /// A report in memory that is told, of which some calls fail, and which takes pieces.
 ///
 /// The calls of `write` are numbered from 0. Exactly those whose number is among the failing ones
-/// answer Failed.
+/// answer Failed. A write that isn't refused takes a whole piece, or all that it is given where that
+/// is shorter.
 #[derive(Debug, Drop)]
 pub struct MemoryReport {
     bytes: Vec<u8>,

@@ -21,7 +21,8 @@ pub trait Outputs {
     /// How often a call failed.
     ghost faults: { Self → ℕ };
 
-    /// What an object says besides of `begin`: of itself before and after, and of the answer.
+    /// What an object promises of `begin` beyond this trait, of itself before and after and of the
+    /// answer. It is nothing where the object doesn't say it.
     ghost begin_gives: { Self → Self → Result Unit PortFault → Type 0 } = { λ _ _ _. ⊤ };
 
     /// The same of `write`, where the third is the piece.

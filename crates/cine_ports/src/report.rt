@@ -15,7 +15,8 @@ pub trait Report {
     /// How often a call failed.
     ghost faults: { Self → ℕ };
 
-    /// What an object says besides of `write`: of itself before and after, of the piece, and of the answer.
+    /// What an object promises of `write` beyond this trait, of itself before and after, of the
+    /// piece and of the answer. It is nothing where the object doesn't say it.
     ghost write_gives: { Self → Self → List ℕ → Result ℕ PortFault → Type 0 } = { λ _ _ _ _. ⊤ };
 
     /// Appends a piece, or only its front, and answers how many bytes.

@@ -15,7 +15,8 @@ pub(crate) struct Shelf {
     is_begun: bool,
     at: usize,
     ghost in_order: { IsNameList (map (λ file. file.name) files.items) },
-    ghost unlisted: { IsUnlisted (told_source files.items is_listed) (told_reading files.items asked is_begun at) },
+    ghost unlisted: { IsUnlisted (told_source files.items is_listed)
+        (told_reading files.items asked is_begun at) },
     ghost in_list: { IsTrue is_begun → asked < length files.items },
     ghost in_file: { IsTrue is_begun → at ≤ length (bytes_at files.items asked) },
 }
