@@ -57,7 +57,6 @@ fn run_over<F: Frames>(
     target: Option<String>,
 ) -> Result<u8, AllocError>
     requires unlisted { (F.source frames.old).is_listed ≡ false }
-    requires asked { (F.reading frames.old).asked ≡ 0 }
 {
     let alloc = rt.alloc();
     let mut report = StdoutReport::new(rt.clone()?);

@@ -37,7 +37,6 @@ pub fn run<F: Frames, O: Outputs, S: Report>(
     report: &mut S,
 ) -> u8
     requires unlisted { (F.source frames.old).is_listed ≡ false }
-    requires asked { (F.reading frames.old).asked ≡ 0 }
     requires closed { O.is_open outputs.old ≡ false }
     requires nothing_kept { ForSome (O.kept outputs.old) (λ kept. kept ≡ kept_nothing) }
     requires nothing_said { ForSome (S.said report.old) (λ said. said ≡ []) }

@@ -79,7 +79,7 @@ pub fn visit_all<F: Frames, O: Outputs, S: Report>(
     outputs: &mut O,
     report: &mut S,
 ) -> Result<bool, Stop>
-    requires asked { (F.reading frames.old).asked ≡ 0 }
+    requires unlisted { (F.source frames.old).is_listed ≡ false }
     requires closed { O.is_open outputs.old ≡ false }
     requires kept { ForSome (O.kept outputs.old) (λ kept. kept ≡ kept_nothing) }
     requires said { ForSome (S.said report.old) (λ said. said ≡ []) }

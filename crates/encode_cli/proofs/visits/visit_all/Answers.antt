@@ -10,7 +10,7 @@ use Rattle.encode_cli.proofs.visits.visit_all.Goals as goal
 pub returns-in-Err-clause-err : goal.returns-in-Err-clause-err
 returns-in-Err-clause-err g c =
     none_broken (g.F.Frames.source c.args.frames.now).files (g.F.Frames.reading c.list.new.self).asked (g.O.Outputs.kept c.args.outputs.now) (g.S.Report.said c.args.report.now)
-    (ap (λ (r : Reading). r.asked) c.list.ensures.reading ∙ c.requires.asked) c.requires.kept c.requires.said
+    (ap (λ (r : Reading). r.asked) c.list.ensures.reading ∙ (g.met.F.Frames.unlisted c.args.frames.now c.requires.unlisted).1) c.requires.kept c.requires.said
 
 pub visit-requires-clause-other_name : goal.visit-requires-clause-other_name
 visit-requires-clause-other_name g c =
