@@ -1,6 +1,5 @@
 mod BandLaw
 mod BandSteps
-mod BuiltInSteps
 mod Resolutions
 mod Rows
 mod Unknown

@@ -14,9 +14,6 @@ error-unknown m u lt =
 pub energy-is : (m : ℕ) → squared_error m (bit_len m) ≡ square (middle m 0)
 energy-is m = error-unknown m (bit_len m) (bit_len-above m)
 
-pub energy-of_zero : (m : ℕ) → m ≡ 0 → squared_error m (bit_len m) ≡ 0
-energy-of_zero m none = energy-is m ∙ ap (λ n. square (middle n 0)) none
-
 pub energy-of_more : (m : ℕ) → (m ≡ 0 → ⊥) → squared_error m (bit_len m) ≡ (2 * m + 1) * (2 * m + 1)
 energy-of_more zero some = absurd (some refl)
 energy-of_more (suc n) some =

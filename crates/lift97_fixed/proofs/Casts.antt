@@ -10,9 +10,6 @@ passed z = to_z w32 (of_z w32 z)
 pub passed_within : (z : ℤ) → Within30 z → passed z ≡ z
 passed_within z h = omega (arith, ints)
 
-pub within_passed : (z : ℤ) → Within30 z → Within30 (passed z)
-within_passed z h = rw (passed_within z h) h
-
 pub passed_fits : (z : ℤ) → FitsSigned w32 z → passed z ≡ z
 passed_fits z h = to_z-of_z w32 z h
 

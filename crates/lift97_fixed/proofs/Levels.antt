@@ -5,7 +5,7 @@ use Rattle.std.proofs.lemmas.List.Edits.{get_or-between, length-between}
 use Rattle.std.proofs.lemmas.List.Elements.{All-append, All-take, All-drop}
 use Rattle.std.proofs.lemmas.List.FromFn.{fill_by_all}
 use Rattle.std.proofs.lemmas.Bool.{cases_lt, cases_eq}
-use Rattle.std.proofs.lemmas.Nat.{row_fits, mul-le}
+use Rattle.std.proofs.lemmas.Nat.{row_fits}
 use Rattle.std.specs.List.{between}
 use borrow.Rule.Slice.PartMut.{put_mid}
 use Rattle.cine_nums.specs.Division.{div_up}
@@ -203,6 +203,3 @@ levels_step levels n width height w h w' h' old cur mid new lt ew eh l e in30 em
 pub levels_all : (levels n width height w h : ℕ) (old cur : List ℤ) → levels ≤ n → LevelsDone levels n width height w h old cur →
     cur ≡ levels_from levels width width height old
 levels_all levels n width height w h old cur le l = sym (levels_end (levels - n) width w h cur (omega arith)) ∙ l.rest
-
-pub fits_in : (h height width n : ℕ) → h ≤ height → n ≡ width * height → h * width ≤ n
-fits_in h height width n le e = omega (arith, mul-le h width height width le (omega arith))

@@ -32,13 +32,6 @@ number xs n h inside f j lt = elim (cases_eq j n) [
   | inr ne ↦ get_or-set_other xs n j (to_z w32 n) (pos 0) ne ∙ f j (omega arith)
 ]
 
-pub numbered_more : (n : ℕ) (held placed : List ℤ) → n < 4096 → n < length held → n < length placed → Numbered n held placed →
-    Numbered (n + 1) (set held n (to_z w32 n)) (set placed n (to_z w32 n))
-numbered_more n held placed h a b r = record {
-  rows = number held n h a r.rows;
-  places = number placed n h b r.places;
-}
-
 -- which row stands at place p, and where row r stands
 pub record Held (h p : ℕ) (held placed : List ℤ) : Type 0 where
   pub row : ℕ

@@ -28,9 +28,6 @@ length-column width h cells x = length-map-range_with_len (λ y. cell width cell
 pub at-column : (width h : ℕ) (cells : List ℤ) (x y : ℕ) → y < h → at (column width h cells x) y ≡ cell width cells x y
 at-column width h cells x y lt = get_or-map-range_with_len (λ i. cell width cells x i) 0 h y y (pos 0) lt (zero-add y)
 
-pub at-row : (width w : ℕ) (cells : List ℤ) (x y : ℕ) → x < w → at (row width w cells y) x ≡ cell width cells x y
-at-row width w cells x y lt = get_or-map-range_with_len (λ i. cell width cells i y) 0 w x x (pos 0) lt (zero-add x)
-
 -- ---- the columns
 
 columns-inside : (t : List ℤ → List ℤ) (width w h : ℕ) (cells : List ℤ) (x y : ℕ) → w ≤ width → h * width ≤ length cells → x < w → y < h →
@@ -118,9 +115,6 @@ columns_unchanged t width w h cells some same =
     (λ x y hx inside out. refl)
 
 -- ---- the rows
-
-pub length-row : (width w : ℕ) (cells : List ℤ) (y : ℕ) → length (row width w cells y) ≡ w
-length-row width w cells y = length-map-range_with_len (λ x. cell width cells x y) 0 w
 
 -- what shows that the rows of a plane were transformed
 pub rows_from : (t : List ℤ → List ℤ) (width w h : ℕ) (cells out : List ℤ) → 0 < width → length out ≡ length cells →

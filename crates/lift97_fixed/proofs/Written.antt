@@ -1,5 +1,5 @@
 -- The steps along the columns, row by row.
-use Rattle.std.proofs.Common.{◌≡◌, ◌≢◌, ℕ, ◌+◌, ◌*◌, ◌%◌, ◌<◌, ◌≤◌, ℤ, pos, List, length, All, arith, refl, sym, ◌∙◌, ap, inl, inr}
+use Rattle.std.proofs.Common.{◌≡◌, ◌≢◌, ℕ, ◌+◌, ◌*◌, ◌%◌, ◌<◌, ◌≤◌, ℤ, pos, List, length, All, arith, sym, ◌∙◌, ap, inl, inr}
 use Rattle.std.proofs.lemmas.List.{get_or-set_same, get_or-set_other, length-set}
 use Rattle.std.proofs.lemmas.List.Elements.{All-set}
 use Rattle.std.proofs.lemmas.Bool.{cases_lt, cases_eq}
@@ -144,15 +144,6 @@ on_lifted c p width w h n old cur x le two inside hx parity r =
     ∙ (ap (λ (z : ℤ). lifted c (at (column width h old x) n) (at (column width h old x) (left_of n)) z) (behind ∙ ap (at (column width h old x)) size)
     ∙ sym (on_parity c p (column width h old x) n parity)))
 
-pub lift_rows_none : (c : ℤ) (p width w h : ℕ) (cells : List ℤ) → p < 2 → w ≤ width → All Within30 cells →
-    RowsWritten width w h p (lifted_place c p width h cells) cells cells
-lift_rows_none c p width w h cells hp le in30 = record {
-  size = refl;
-  within = in30;
-  done = λ x y hx lt hy. sym (off_lifted c p width h cells x y hy (λ (e : y % 2 ≡ p). omega arith));
-  kept = λ x y hx out. refl;
-}
-
 pub lift_rows_step : (c : ℤ) (p width w h k : ℕ) (old cur new : List ℤ) (above below : ℕ) → w ≤ width → 2 ≤ h → p < 2 → 2 * k + p < h →
     above ≡ left_of (2 * k + p) → below ≡ right_of h (2 * k + p) →
     RowsWritten width w h (2 * k + p) (lifted_place c p width h old) old cur →
@@ -180,15 +171,6 @@ scaled_place c p width h cells x y = scaled_at c p (column width h cells x) y
 
 off_scaled : (c : ℤ) (p width h : ℕ) (cells : List ℤ) (x y : ℕ) → y < h → y % 2 ≢ p → scaled_place c p width h cells x y ≡ cell width cells x y
 off_scaled c p width h cells x y hy ne = off_scale c p (column width h cells x) y ne ∙ at-column width h cells x y hy
-
-pub scale_rows_none : (c : ℤ) (p width w h : ℕ) (cells : List ℤ) → p < 2 → w ≤ width → All Within30 cells →
-    RowsWritten width w h p (scaled_place c p width h cells) cells cells
-scale_rows_none c p width w h cells hp le in30 = record {
-  size = refl;
-  within = in30;
-  done = λ x y hx lt hy. sym (off_scaled c p width h cells x y hy (λ (e : y % 2 ≡ p). omega arith));
-  kept = λ x y hx out. refl;
-}
 
 pub scale_rows_step : (c : ℤ) (p width w h k : ℕ) (old cur new : List ℤ) → w ≤ width → p < 2 → 2 * k + p < h →
     RowsWritten width w h (2 * k + p) (scaled_place c p width h old) old cur →

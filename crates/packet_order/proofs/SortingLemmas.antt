@@ -1,49 +1,13 @@
 -- Lists that grow in their order.
-use Rattle.std.proofs.Common.{◌≡◌, ℕ, ◌+◌, ◌<◌, Bool, true, false, cond, List, [], ◌∷◌, ◌++◌, map, take, drop, length, get_or, arith, ◌∙◌, sym, ap, refl, append_assoc, zero-add}
+use Rattle.std.proofs.Common.{◌≡◌, ℕ, ◌+◌, Bool, List, [], ◌∷◌, ◌++◌, map, take, drop, ◌∙◌, sym, ap, refl, zero-add}
 use Rattle.std.specs.List.{flat_map, range_with_len, insert}
-use Rattle.std.proofs.lemmas.List.{drop_more, take_more, drop_all, flat_map_more, map-id}
+use Rattle.std.proofs.lemmas.List.{flat_map_more, map-id}
 use Rattle.std.proofs.lemmas.List.FromFn.{map-range_with_len_more}
 use Rattle.packet_order.specs.Sorting.{insert_by, insert_all}
 
 -- the first i elements come before a, so that a has its place behind them
 pub record IsPassed {A : Type 0} (before : A → A → Bool) (a : A) (xs : List A) (i : ℕ) : Type 0 where
   pub is : insert_by before a xs ≡ take i xs ++ insert_by before a (drop i xs)
-
-pub passed_none : {A : Type 0} (before : A → A → Bool) (a : A) (xs : List A) → IsPassed before a xs 0
-passed_none before a xs = record { is = refl }
-
-pub passed_more : {A : Type 0} (before : A → A → Bool) (a : A) (xs : List A) (i : ℕ) (x : A) → i < length xs →
-    x ≡ get_or xs i x → before a x ≡ false → IsPassed before a xs i → IsPassed before a xs (i + 1)
-passed_more before a xs i x below here after passed =
-    let first : insert_by before a (drop i xs) ≡ insert_by before a (get_or xs i x ∷ drop (i + 1) xs) =
-    ap (insert_by before a) (drop_more xs i x below) in
-    let there : insert_by before a (get_or xs i x ∷ drop (i + 1) xs) ≡ insert_by before a (x ∷ drop (i + 1) xs) =
-    ap (λ y. insert_by before a (y ∷ drop (i + 1) xs)) (sym here) in
-    let step : insert_by before a (x ∷ drop (i + 1) xs) ≡ x ∷ insert_by before a (drop (i + 1) xs) =
-    ap (λ b. cond b (a ∷ (x ∷ drop (i + 1) xs)) (x ∷ insert_by before a (drop (i + 1) xs))) after in
-    let taken : take (i + 1) xs ≡ take i xs ++ x ∷ [] =
-    take_more xs i x below ∙ ap (λ y. take i xs ++ y ∷ []) (sym here) in
-    record {
-      is = passed.is ∙ ap (λ t. take i xs ++ t) (first ∙ there ∙ step) ∙
-          sym (append_assoc (take i xs) (x ∷ []) (insert_by before a (drop (i + 1) xs))) ∙
-          ap (λ t. t ++ insert_by before a (drop (i + 1) xs)) (sym taken);
-    }
-
-pub placed_here : {A : Type 0} (before : A → A → Bool) (a : A) (xs : List A) (i : ℕ) (x : A) → i < length xs →
-    x ≡ get_or xs i x → before a x ≡ true → IsPassed before a xs i → insert xs i a ≡ insert_by before a xs
-placed_here before a xs i x below here first passed =
-    let rest : drop i xs ≡ x ∷ drop (i + 1) xs =
-    drop_more xs i x below ∙ ap (λ y. y ∷ drop (i + 1) xs) (sym here) in
-    let step : insert_by before a (x ∷ drop (i + 1) xs) ≡ a ∷ (x ∷ drop (i + 1) xs) =
-    ap (λ b. cond b (a ∷ (x ∷ drop (i + 1) xs)) (x ∷ insert_by before a (drop (i + 1) xs))) first in
-    ap (λ t. take i xs ++ a ∷ t) rest ∙ ap (λ t. take i xs ++ t) (sym step) ∙
-    ap (λ t. take i xs ++ insert_by before a t) (sym rest) ∙ sym passed.is
-
-pub placed_last : {A : Type 0} (before : A → A → Bool) (a : A) (xs : List A) (i : ℕ) → i ≡ length xs →
-    IsPassed before a xs i → insert xs i a ≡ insert_by before a xs
-placed_last before a xs i all passed =
-    let none : drop i xs ≡ [] = drop_all i xs (omega arith) in
-    ap (λ t. take i xs ++ a ∷ t) none ∙ ap (λ t. take i xs ++ insert_by before a t) (sym none) ∙ sym passed.is
 
 pub insert_all-append : {A : Type 0} (before : A → A → Bool) (sorted xs ys : List A) →
     insert_all before sorted (xs ++ ys) ≡ insert_all before (insert_all before sorted xs) ys
