@@ -24,7 +24,7 @@ white-again (x ∷ gap) at next b rest all other place room =
     let white : is_white x ≡ true = all 0 0 (omega arith) in
     rw (early, white) (white-again gap (suc at) next b rest (λ k d lt. all (suc k) d (omega arith)) other (omega arith) room)
 
-no-white : (b : ℕ) → is_ascii_digit b ≡ true → is_white b ≡ false
+pub no-white : (b : ℕ) → is_ascii_digit b ≡ true → is_white b ≡ false
 no-white b digit = grind (arith, nat_tests)
 
 digits-again : (digits : List ℕ) (n at next end : ℕ) (rest : List ℕ) → All IsDigit digits → is_white end ≡ true → next ≡ at + length digits + 1 → next ≤ header_limit → digits_at n at (digits ++ (end ∷ rest)) ≡ Ok (value_from n digits, next, rest)
@@ -37,7 +37,7 @@ digits-again (x ∷ digits) n at next end rest all ends place room =
     let digit : is_ascii_digit x ≡ true = all 0 0 (omega arith) in
     rw (early, no-white x digit, digit) (digits-again digits (10 * n + (x - 48)) (suc at) next end rest (λ k d lt. all (suc k) d (omega arith)) ends (omega arith) room)
 
-number-again : (gap digits : List ℕ) (at next n end : ℕ) (rest : List ℕ) → All IsWhite gap → IsNumeral digits n → is_white end ≡ true → next ≡ at + length gap + length digits + 1 → next ≤ header_limit
+pub number-again : (gap digits : List ℕ) (at next n end : ℕ) (rest : List ℕ) → All IsWhite gap → IsNumeral digits n → is_white end ≡ true → next ≡ at + length gap + length digits + 1 → next ≤ header_limit
     → number_at at (gap ++ (digits ++ (end ∷ rest))) ≡ Ok (n, next, rest)
 unfolding number_at
 number-again gap [] at next n end rest all numeral ends place room = absurd (omega (arith, numeral.some))
@@ -49,7 +49,7 @@ number-again gap (x ∷ digits) at next n end rest all numeral ends place room =
     let number = digits-again digits (x - 48) (at + length gap + 1) next end rest (λ k d lt. numeral.ascii (suc k) d (omega arith)) ends (omega arith) room in
     rw (white, digit, number, worth) refl
 
-ranged-again : (low high at n next : ℕ) (bytes rest : List ℕ) → low ≤ n → n ≤ high → number_at at bytes ≡ Ok (n, next, rest) → ranged_at low high at bytes ≡ Ok (Some n, next, rest)
+pub ranged-again : (low high at n next : ℕ) (bytes rest : List ℕ) → low ≤ n → n ≤ high → number_at at bytes ≡ Ok (n, next, rest) → ranged_at low high at bytes ≡ Ok (Some n, next, rest)
 unfolding ranged_at
 ranged-again low high at n next bytes rest le ge number = rw (number, le-leb low n le, le-leb n high ge) refl
 
@@ -57,9 +57,10 @@ magic-again : (g : ℕ) (rest : List ℕ) → is_white g ≡ true → magic_at 0
 unfolding magic_at
 magic-again g rest white = rw white refl
 
-parts-again : (limits : SizeLimits) (w h end : ℕ) (gap1 wide gap2 tall gap3 maxval rest : List ℕ) → 1 ≤ w → w ≤ limits.width → 1 ≤ h → h ≤ limits.height
+pub parts-again : (limits : SizeLimits) (w h end : ℕ) (gap1 wide gap2 tall gap3 maxval rest : List ℕ) → 1 ≤ w → w ≤ limits.width → 1 ≤ h → h ≤ limits.height
     → IsHeader (record { gap1 = gap1; width = wide; gap2 = gap2; height = tall; gap3 = gap3; maxval = maxval; end = end }) w h
     → (at : ℕ) × (header_at limits (header (record { gap1 = gap1; width = wide; gap2 = gap2; height = tall; gap3 = gap3; maxval = maxval; end = end }) ++ rest) ≡ Ok ((w, h), at, rest))
+    × (length (header (record { gap1 = gap1; width = wide; gap2 = gap2; height = tall; gap3 = gap3; maxval = maxval; end = end })) ≡ at)
 unfolding header_at
 parts-again limits w h end [] wide gap2 tall gap3 maxval rest w1 w2 h1 h2 is = absurd (omega (arith, is.gap1.some))
 parts-again limits w h end (g ∷ g1) wide [] tall gap3 maxval rest w1 w2 h1 h2 is = absurd (omega (arith, is.gap2.some))
@@ -78,7 +79,7 @@ parts-again limits w h end (g ∷ g1) wide (e1 ∷ g2) tall (e2 ∷ g3) maxval r
     let height = ranged-again 1 limits.height p1 h p2 r2 r3 h1 h2 (number-again g2 tall p1 p2 h e2 r3 (λ k d lt. is.gap2.white (suc k) d (omega arith)) is.height_is (is.gap3.white 0 0 (omega arith)) refl (omega arith)) in
     let last = ranged-again 4095 4095 p2 4095 p3 r3 rest (omega arith) (omega arith) (number-again g3 maxval p2 p3 4095 end rest (λ k d lt. is.gap3.white (suc k) d (omega arith)) is.maxval is.ended refl room) in
     let whole = whole-header g e1 e2 end g1 wide g2 tall g3 maxval rest r1 r2 r3 (80 ∷ 54 ∷ g ∷ r1) refl refl refl refl in
-    (p3, ap (header_at limits) (sym whole) ∙ rw (magic, width, height, last) refl)
+    (p3, ap (header_at limits) (sym whole) ∙ rw (magic, width, height, last) refl, omega (arith, len))
 
 pub frame-again : (limits : SizeLimits) (p : Picture) (bytes : List ℕ) → Fits limits p → Spells bytes p → frame_of limits bytes ≡ Ok p
 frame-again limits p bytes fits spelled =

@@ -1,5 +1,5 @@
 -- Which fault is the first: the shortest front of a file that has one other than a missing byte decides, whatever follows.
-use Rattle.std.proofs.Common.{◌≡◌, ℕ, zero, suc, ◌+◌, ◌*◌, ◌-◌, Bool, true, false, cond, ◌&&◌, eqb, List, [], ◌∷◌, ◌++◌, length, Option, Some, None, Result, Ok, Err, refl, ap, arith}
+use Rattle.std.proofs.Common.{◌≡◌, ℕ, zero, suc, ◌+◌, ◌*◌, ◌-◌, Bool, true, false, cond, eqb, List, [], ◌∷◌, ◌++◌, length, Option, Some, None, Result, Ok, Err, refl, ap, arith}
 use Rattle.std.specs.Prelude.{nat_lt, nat_le}
 use Rattle.std.specs.Char.{is_ascii_digit}
 use Rattle.std.proofs.Math.Dec.{leb}
@@ -9,6 +9,7 @@ use Rattle.pnm_frames.specs.FirstFault.{Stands, Foretells}
 use Rattle.pnm_frames.specs.Grammar.{is_white, header_limit}
 use Rattle.pnm_frames.specs.Picture.{Picture}
 use Rattle.pnm_frames.specs.Reading.{Read, byte_at, magic_at, white_at, digits_at, number_at, ranged_at, or_fault, header_at, samples_at, plane_of, ended, frame_of}
+use Rattle.pnm_frames.proofs.Laws.{Sizes, behind_white, judged, step1, step2, step3, step4, step5, step6, step7}
 
 stands-on : {X Y : Type 0} (e : Fault) (whole : ℕ) (l : Result X Fault) (f : X → Result Y Fault) → Stands e whole l → Stands e whole (l >>= f)
 stands-on (Truncated seen) whole l f h = h
@@ -85,18 +86,12 @@ goes-digits whole n at (b ∷ bytes) more len =
     (Ok (n, suc at, bytes ++ more)) (cond (is_ascii_digit b) (number (bytes ++ more)) (Err (BadHeader at))) (refl, omega (arith, len)) inner)
     refl
 
-abbrev behind_white : Point ℕ → Read ℕ
-behind_white first = cond (is_ascii_digit first.0) (digits_at (first.0 - 48) first.1 first.2) (Err (BadHeader (first.1 - 1)))
-
 goes-number : (whole at : ℕ) (bytes more : List ℕ) → at + length bytes ≡ whole → Goes whole more (number_at at bytes) (number_at at (bytes ++ more))
 unfolding number_at
 goes-number whole at bytes more len =
     goes-then whole more (white_at at bytes) (white_at at (bytes ++ more)) behind_white (goes-white whole at bytes more len)
     (λ first place. goes-choice whole more (is_ascii_digit first.0) (digits_at (first.0 - 48) first.1 first.2) (Err (BadHeader (first.1 - 1)))
     (digits_at (first.0 - 48) first.1 (first.2 ++ more)) (Err (BadHeader (first.1 - 1))) (goes-digits whole (first.0 - 48) first.1 first.2 more place) refl)
-
-abbrev judged : ℕ → ℕ → Point ℕ → Read (Option ℕ)
-judged low high number = Ok (cond (nat_le low number.0 && nat_le number.0 high) (Some number.0) None, number.1, number.2)
 
 goes-ranged : (whole low high at : ℕ) (bytes more : List ℕ) → at + length bytes ≡ whole → Goes whole more (ranged_at low high at bytes) (ranged_at low high at (bytes ++ more))
 unfolding ranged_at
@@ -139,30 +134,6 @@ goes-magic whole at bytes more len =
 
 -- ---- the header
 
-abbrev Sizes : Type 0
-Sizes = ℕ × ℕ
-
-abbrev step7 : ℕ → ℕ → Point (Option ℕ) → ℕ → Read Sizes
-step7 w h maxval m = Ok ((w, h), maxval.1, maxval.2)
-
-abbrev step6 : ℕ → ℕ → Point (Option ℕ) → Read Sizes
-step6 w h maxval = or_fault WrongMaxval maxval.0 >>= step7 w h maxval
-
-abbrev step5 : ℕ → Point (Option ℕ) → ℕ → Read Sizes
-step5 w height h = ranged_at 4095 4095 height.1 height.2 >>= step6 w h
-
-abbrev step4 : ℕ → Point (Option ℕ) → Read Sizes
-step4 w height = or_fault HeightOutOfRange height.0 >>= step5 w height
-
-abbrev step3 : SizeLimits → Point (Option ℕ) → ℕ → Read Sizes
-step3 limits width w = ranged_at 1 limits.height width.1 width.2 >>= step4 w
-
-abbrev step2 : SizeLimits → Point (Option ℕ) → Read Sizes
-step2 limits width = or_fault WidthOutOfRange width.0 >>= step3 limits width
-
-abbrev step1 : SizeLimits → Point (Unit {0}) → Read Sizes
-step1 limits magic = ranged_at 1 limits.width magic.1 magic.2 >>= step2 limits
-
 abbrev longer : {A : Type 0} → List ℕ → Point A → Point A
 longer more read = (read.0, read.1, read.2 ++ more)
 
@@ -192,14 +163,14 @@ goes-header limits bytes more =
 
 -- ---- the samples
 
-abbrev Samples : Type 0
+abbrev pub Samples : Type 0
 Samples = List ℕ × List ℕ
 
 abbrev Runs : ℕ → List ℕ → Result Samples Fault → Result Samples Fault → Type 0
 Runs whole more (Ok read) further = further ≡ Ok (read.0, read.1 ++ more)
 Runs whole more (Err e) further = Stands e whole further
 
-abbrev with_sample : ℕ → Samples → Result Samples Fault
+abbrev pub with_sample : ℕ → Samples → Result Samples Fault
 with_sample s read = Ok (s ∷ read.0, read.1)
 
 runs-on : (whole s : ℕ) (more : List ℕ) (r l : Result Samples Fault) → Runs whole more r l → Runs whole more (r >>= with_sample s) (l >>= with_sample s)
@@ -223,8 +194,8 @@ runs-samples whole (suc n) at (high ∷ low ∷ bytes) more len =
 
 -- ---- the file
 
-from-header : (whole : ℕ) (more : List ℕ) (r l : Read Sizes) (f : Point Sizes → Result Picture Fault) → Goes whole more r l
-    → ((read : Point Sizes) → read.1 + length read.2 ≡ whole → Foretells whole more (f read) (f (longer more read)))
+from-header : (whole : ℕ) (more : List ℕ) (r l : Read (ℕ × ℕ)) (f : Sizes → Result Picture Fault) → Goes whole more r l
+    → ((read : Sizes) → read.1 + length read.2 ≡ whole → Foretells whole more (f read) (f (longer more read)))
     → Foretells whole more (r >>= f) (l >>= f)
 from-header whole more (Ok read) l f goes next = rw goes.0 (next read goes.1)
 from-header whole more (Err e) l f goes next = stands-on e whole l f goes
@@ -239,7 +210,7 @@ from-end : (whole : ℕ) (more : List ℕ) (p : Picture) (rest : List ℕ) → F
 from-end whole more p [] = refl
 from-end whole more p (b ∷ rest) = refl
 
-abbrev picture : Sizes → List ℕ → Picture
+abbrev pub picture : ℕ × ℕ → List ℕ → Picture
 picture sizes samples = record {
   width = sizes.0;
   height = sizes.1;
@@ -248,10 +219,10 @@ picture sizes samples = record {
   z = plane_of (λ x y z. z) samples;
 }
 
-abbrev behind_samples : Sizes → Samples → Result Picture Fault
+abbrev pub behind_samples : ℕ × ℕ → Samples → Result Picture Fault
 behind_samples sizes samples = ended (picture sizes samples.0) samples.1
 
-abbrev behind_header : Point Sizes → Result Picture Fault
+abbrev pub behind_header : Sizes → Result Picture Fault
 behind_header header = samples_at (3 * (header.0.0 * header.0.1)) header.1 header.2 >>= behind_samples header.0
 
 -- A file foretells every longer one: its fault stands, unless only a byte was missing at its end.

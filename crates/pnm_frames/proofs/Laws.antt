@@ -13,27 +13,27 @@ use Rattle.pnm_frames.specs.Grammar.{is_white, value_from, IsGap, IsNumeral, Par
 use Rattle.pnm_frames.specs.Reading.{Read, byte_at, magic_at, white_at, digits_at, number_at, ranged_at, or_fault, header_at, samples_at, plane_of, ended, frame_of}
 
 -- which way a choice went
-chosen : {A : Type 0} (b : Bool) (x y z : A) → cond b x y ≡ z → ((b ≡ true) × (x ≡ z)) ⊎ ((b ≡ false) × (y ≡ z))
+pub chosen : {A : Type 0} (b : Bool) (x y z : A) → cond b x y ≡ z → ((b ≡ true) × (x ≡ z)) ⊎ ((b ≡ false) × (y ≡ z))
 chosen true x y z e = inl (refl, e)
 chosen false x y z e = inr (refl, e)
 
 abbrev value : {A : Type 0} → A → Result A Fault
 value x = Ok x
 
-abbrev refused : {A : Type 0} → Fault → Result A Fault
+abbrev pub refused : {A : Type 0} → Fault → Result A Fault
 refused f = Err f
 
-value-is : {A : Type 0} (x y : A) → value x ≡ value y → x ≡ y
+pub value-is : {A : Type 0} (x y : A) → value x ≡ value y → x ≡ y
 value-is x y e = cc
 
-no-value : {A : Type 0} {f : Fault} {x : A} → refused f ≡ value x → ⊥
+pub no-value : {A : Type 0} {f : Fault} {x : A} → refused f ≡ value x → ⊥
 no-value e = cc
 
 neither : {A : Type 0} (t : Bool) (f g : Fault) (x : A) → cond t (refused f) (refused g) ≡ value x → ⊥
 neither true f g x e = cc
 neither false f g x e = cc
 
-bind_ok : {A B : Type 0} (r : Result A Fault) (f : A → Result B Fault) (y : B) → (r >>= f) ≡ Ok y → (x : A) × (r ≡ Ok x) × (f x ≡ Ok y)
+pub bind_ok : {A B : Type 0} (r : Result A Fault) (f : A → Result B Fault) (y : B) → (r >>= f) ≡ Ok y → (x : A) × (r ≡ Ok x) × (f x ≡ Ok y)
 bind_ok (Ok x) f y e = (x, refl, e)
 bind_ok (Err d) f y e = absurd cc
 
@@ -43,7 +43,7 @@ IsWhite b = is_white b ≡ true
 abbrev pub IsDigit : ℕ → Type 0
 IsDigit b = is_ascii_digit b ≡ true
 
-abbrev Point : Type 0
+abbrev pub Point : Type 0
 Point = ℕ × ℕ × List ℕ
 
 -- ---- white space
@@ -54,8 +54,9 @@ pub record WhiteRead (at : ℕ) (bytes : List ℕ) (read : Point) : Type 0 where
   pub parts : bytes ≡ gap ++ (read.0 ∷ read.2)
   pub place : read.1 ≡ at + length gap + 1
   pub room : read.1 ≤ header_limit
+  pub other : is_white read.0 ≡ false
 
-white-found : (at : ℕ) (bytes : List ℕ) (read : Point) → white_at at bytes ≡ Ok read → WhiteRead at bytes read
+pub white-found : (at : ℕ) (bytes : List ℕ) (read : Point) → white_at at bytes ≡ Ok read → WhiteRead at bytes read
 white-found at [] read e = absurd (neither (nat_lt at header_limit) _ _ read e)
 white-found at (x ∷ bytes) read e =
     elim (chosen (nat_lt at header_limit) (cond (is_white x) (white_at (suc at) bytes) (Ok (x, suc at, bytes))) (Err HeaderTooLong) (Ok read) e) [
@@ -71,6 +72,7 @@ white-found at (x ∷ bytes) read e =
                   parts = ap (λ (t : List ℕ). x ∷ t) rest.parts;
                   place = omega (arith, rest.place);
                   room = rest.room;
+                  other = rest.other;
                 }
             | inr last ↦
                 let same : (let p : Point = (x, suc at, bytes) in p) ≡ read = value-is (x, suc at, bytes) read last.1 in
@@ -80,6 +82,7 @@ white-found at (x ∷ bytes) read e =
                   parts = refl;
                   place = omega arith;
                   room = omega arith;
+                  other = last.0;
                 })
           ]
     ]
@@ -149,10 +152,10 @@ pub record NumberRead (at : ℕ) (bytes : List ℕ) (read : Point) : Type 0 wher
   pub place : read.1 ≡ at + length gap + length digits + 1
   pub room : read.1 ≤ header_limit
 
-abbrev behind_white : Point → Read ℕ
+abbrev pub behind_white : Point → Read ℕ
 behind_white first = cond (is_ascii_digit first.0) (digits_at (first.0 - 48) first.1 first.2) (Err (BadHeader (first.1 - 1)))
 
-number-found : (at : ℕ) (bytes : List ℕ) (read : Point) → number_at at bytes ≡ Ok read → NumberRead at bytes read
+pub number-found : (at : ℕ) (bytes : List ℕ) (read : Point) → number_at at bytes ≡ Ok read → NumberRead at bytes read
 unfolding number_at
 number-found at bytes read e =
     let front = bind_ok (white_at at bytes) behind_white read e in
@@ -180,10 +183,10 @@ number-found at bytes read e =
           }
     ]
 
-abbrev Choice : Type 0
+abbrev pub Choice : Type 0
 Choice = Option ℕ × ℕ × List ℕ
 
-abbrev judged : ℕ → ℕ → Point → Read (Option ℕ)
+abbrev pub judged : ℕ → ℕ → Point → Read (Option ℕ)
 judged low high number = Ok (cond (nat_le low number.0 && nat_le number.0 high) (Some number.0) None, number.1, number.2)
 
 -- a number within the range
@@ -236,7 +239,7 @@ letter-found wanted first read e =
 abbrev empty : Unit {0}
 empty = tt
 
-abbrev Mark : Type 0
+abbrev pub Mark : Type 0
 Mark = Unit {0} × ℕ × List ℕ
 
 abbrev magic_end : Point → Point → Read (Unit {0})
@@ -254,7 +257,7 @@ pub record MagicRead (bytes : List ℕ) (read : Mark) : Type 0 where
   pub parts : bytes ≡ 80 ∷ 54 ∷ gap ∷ read.2
   pub place : read.1 ≡ 3
 
-magic-found : (bytes : List ℕ) (read : Mark) → magic_at 0 bytes ≡ Ok read → MagicRead bytes read
+pub magic-found : (bytes : List ℕ) (read : Mark) → magic_at 0 bytes ≡ Ok read → MagicRead bytes read
 unfolding magic_at
 magic-found bytes read e =
     let a = bind_ok (byte_at 0 bytes) behind_letter read e in
@@ -288,37 +291,38 @@ pub length-header : (g e1 e2 e3 : ℕ) (g1 w g2 h g3 m : List ℕ)
     → length (header (record { gap1 = g ∷ g1; width = w; gap2 = e1 ∷ g2; height = h; gap3 = e2 ∷ g3; maxval = m; end = e3 })) ≡ 3 + length g1 + length w + 1 + length g2 + length h + 1 + length g3 + length m + 1
 length-header g e1 e2 e3 g1 w g2 h g3 m = simp length-append (omega arith)
 
-abbrev Sizes : Type 0
+abbrev pub Sizes : Type 0
 Sizes = (ℕ × ℕ) × ℕ × List ℕ
 
-abbrev step7 : ℕ → ℕ → Choice → ℕ → Result Sizes Fault
+abbrev pub step7 : ℕ → ℕ → Choice → ℕ → Result Sizes Fault
 step7 w h maxval m = Ok ((w, h), maxval.1, maxval.2)
 
-abbrev step6 : ℕ → ℕ → Choice → Result Sizes Fault
+abbrev pub step6 : ℕ → ℕ → Choice → Result Sizes Fault
 step6 w h maxval = or_fault WrongMaxval maxval.0 >>= step7 w h maxval
 
-abbrev step5 : ℕ → Choice → ℕ → Result Sizes Fault
+abbrev pub step5 : ℕ → Choice → ℕ → Result Sizes Fault
 step5 w height h = ranged_at 4095 4095 height.1 height.2 >>= step6 w h
 
-abbrev step4 : ℕ → Choice → Result Sizes Fault
+abbrev pub step4 : ℕ → Choice → Result Sizes Fault
 step4 w height = or_fault HeightOutOfRange height.0 >>= step5 w height
 
-abbrev step3 : SizeLimits → Choice → ℕ → Result Sizes Fault
+abbrev pub step3 : SizeLimits → Choice → ℕ → Result Sizes Fault
 step3 limits width w = ranged_at 1 limits.height width.1 width.2 >>= step4 w
 
-abbrev step2 : SizeLimits → Choice → Result Sizes Fault
+abbrev pub step2 : SizeLimits → Choice → Result Sizes Fault
 step2 limits width = or_fault WidthOutOfRange width.0 >>= step3 limits width
 
-abbrev step1 : SizeLimits → Mark → Result Sizes Fault
+abbrev pub step1 : SizeLimits → Mark → Result Sizes Fault
 step1 limits magic = ranged_at 1 limits.width magic.1 magic.2 >>= step2 limits
 
 pub record HeaderRead (limits : SizeLimits) (bytes : List ℕ) (read : Sizes) : Type 0 where
-  pub sizes : IsWithin limits read.0.0 read.0.1
   pub parts : Parts
   pub is_header : IsHeader parts read.0.0 read.0.1
   pub whole : bytes ≡ header parts ++ read.2
+  pub within : IsWithin limits read.0.0 read.0.1
+  pub place : read.1 ≡ length (header parts)
 
-gap-of : (b : ℕ) (gap : List ℕ) → is_white b ≡ true → All IsWhite gap → IsGap (b ∷ gap)
+pub gap-of : (b : ℕ) (gap : List ℕ) → is_white b ≡ true → All IsWhite gap → IsGap (b ∷ gap)
 gap-of b gap first others = record { some = omega arith; white = All-cons IsWhite b gap first others }
 
 pub header-found : (limits : SizeLimits) (bytes : List ℕ) (read : Sizes) → header_at limits bytes ≡ Ok read → HeaderRead limits bytes read
@@ -335,15 +339,15 @@ header-found limits bytes read e =
     let width = ranged-found 1 limits.width a.0.1 a.0.2 w.0 b.0 b.1 (some-of WidthOutOfRange b.0.0 w.0 w.1) in
     let height = ranged-found 1 limits.height b.0.1 b.0.2 h.0 c.0 c.1 (some-of HeightOutOfRange c.0.0 h.0 h.1) in
     let maxval = ranged-found 4095 4095 c.0.1 c.0.2 m.0 d.0 d.1 (some-of WrongMaxval d.0.0 m.0 m.1) in
-    let sizes : IsWithin limits w.0 h.0 = record { some_width = width.1; width_in_limits = width.2; some_height = height.1; height_in_limits = height.2 } in
-    put magic.gap w.0 h.0 m.0 a.0.1 b.0.1 c.0.1 d.0.1 a.0.2 b.0.2 c.0.2 d.0.2 bytes read sizes magic.white magic.parts magic.place width.0 height.0 maxval.0
-    (omega (arith, maxval.1, maxval.2)) (value-is ((w.0, h.0), d.0.1, d.0.2) read m.2)
+    put magic.gap w.0 h.0 m.0 a.0.1 b.0.1 c.0.1 d.0.1 a.0.2 b.0.2 c.0.2 d.0.2 bytes read magic.white magic.parts magic.place width.0 height.0 maxval.0
+    (omega (arith, maxval.1, maxval.2))
+    (record { some_width = width.1; width_in_limits = width.2; some_height = height.1; height_in_limits = height.2 }) (value-is ((w.0, h.0), d.0.1, d.0.2) read m.2)
   where
-    put : (g w h m at1 at2 at3 at4 : ℕ) (r1 r2 r3 r4 bytes : List ℕ) (read : Sizes) → IsWithin limits w h → is_white g ≡ true → bytes ≡ 80 ∷ 54 ∷ g ∷ r1 → at1 ≡ 3
-        → NumberRead at1 r1 (w, at2, r2) → NumberRead at2 r2 (h, at3, r3) → NumberRead at3 r3 (m, at4, r4) → m ≡ 4095 → (let s : Sizes = ((w, h), at4, r4) in s) ≡ read → HeaderRead limits bytes read
-    put g w h m at1 at2 at3 at4 r1 r2 r3 r4 bytes read sizes white magic three width height maxval is same =
+    put : (g w h m at1 at2 at3 at4 : ℕ) (r1 r2 r3 r4 bytes : List ℕ) (read : Sizes) → is_white g ≡ true → bytes ≡ 80 ∷ 54 ∷ g ∷ r1 → at1 ≡ 3
+        → NumberRead at1 r1 (w, at2, r2) → NumberRead at2 r2 (h, at3, r3) → NumberRead at3 r3 (m, at4, r4) → m ≡ 4095
+        → IsWithin limits w h → (let s : Sizes = ((w, h), at4, r4) in s) ≡ read → HeaderRead limits bytes read
+    put g w h m at1 at2 at3 at4 r1 r2 r3 r4 bytes read white magic three width height maxval is within same =
         subst (λ (s : Sizes). HeaderRead limits bytes s) same (record {
-          sizes = sizes;
           parts = record { gap1 = g ∷ width.gap; width = width.digits; gap2 = width.end ∷ height.gap; height = height.digits; gap3 = height.end ∷ maxval.gap; maxval = maxval.digits; end = maxval.end };
           is_header = record {
             gap1 = gap-of g width.gap white width.white;
@@ -364,6 +368,15 @@ header-found limits bytes read e =
           };
           whole = whole-header g width.end height.end maxval.end width.gap width.digits height.gap height.digits maxval.gap maxval.digits r4 r1 r2 r3 bytes
               magic width.parts height.parts maxval.parts;
+          within = within;
+          place = omega (
+            arith,
+            length-header g width.end height.end maxval.end width.gap width.digits height.gap height.digits maxval.gap maxval.digits,
+            three,
+            width.place,
+            height.place,
+            maxval.place,
+          );
         })
 
 -- ---- the file
@@ -413,4 +426,4 @@ frame-sizes limits bytes p e =
     let head = bind_ok (header_at limits bytes) samples_step p e in
     let samples = bind_ok (samples_at (3 * (head.0.0.0 * head.0.0.1)) head.0.1 head.0.2) (last_step head.0) p head.2 in
     let same : picture_with head.0 samples.0 ≡ p = ended-value (picture_with head.0 samples.0) p samples.0.1 samples.2 in
-    subst (λ (q : Picture). IsWithin limits q.width q.height) same (header-found limits bytes head.0 head.1).sizes
+    subst (λ (q : Picture). IsWithin limits q.width q.height) same (header-found limits bytes head.0 head.1).within

@@ -6,3 +6,5 @@ pub mod Files
 pub mod Laws
 pub mod Again
 pub mod FirstFault
+pub mod FaultTold
+pub mod FaultShown

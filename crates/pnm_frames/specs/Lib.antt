@@ -5,3 +5,4 @@ pub mod Fault
 pub mod Reading
 pub mod Keeps
 pub mod FirstFault
+pub mod HasFault

@@ -5,7 +5,7 @@
 //! limits, and then that picture (`Spells` in specs/Grammar.antt). Any other file is refused by its
 //! first fault in reading order, with its place in bytes (`frame_of` in specs/Reading.antt). A caller
 //! that takes one row after the other has the same from `read_header`, `read_row` and `expect_end`. The
-//! clauses of `first_fault` say that the fault is the first.
+//! clauses of `first_fault` say that the fault is the first, and at which byte it is told.
 //!
 //! ```
 //! frames.begin(0)?;

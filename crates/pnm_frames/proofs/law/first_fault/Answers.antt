@@ -1,3 +1,5 @@
+use Rattle.pnm_frames.proofs.FaultShown.{all-shown, fault-shown}
+use Rattle.pnm_frames.proofs.FaultTold.{all-told, frame-told}
 use Rattle.pnm_frames.proofs.FirstFault.{foretells, front-truncated}
 use Rattle.pnm_frames.proofs.law.first_fault.Goals as goal
 
@@ -6,3 +8,9 @@ returns-clause-stands c = foretells
 
 pub returns-clause-fronts : goal.returns-clause-fronts
 returns-clause-fronts c = front-truncated
+
+pub returns-clause-ends : goal.returns-clause-ends
+returns-clause-ends c = λ limits bytes fault. (frame-told limits bytes fault, fault-shown limits bytes fault)
+
+pub returns-clause-frames : goal.returns-clause-frames
+returns-clause-frames c = λ limits bytes. (λ frame. all-told limits bytes frame.0 frame.1, all-shown limits bytes)

@@ -1,0 +1,111 @@
+-- What is wrong with a file, in the words of the grammar: each fault by the bytes up to the one that shows it.
+use Rattle.std.specs.Prelude.{ℕ, zero, suc, ◌≡◌, ◌<◌, ◌≤◌, ◌+◌, ◌*◌, ◌⊎◌, true, false, List, [], ◌∷◌, ◌++◌, length, All}
+use Rattle.std.specs.Char.{is_ascii_digit}
+use Rattle.std.specs.List.{flat_map}
+use Rattle.pnm_frames.specs.declared.limits.SizeLimits.{SizeLimits}
+use Rattle.pnm_frames.specs.Fault.{Fault, NotPpm, BadHeader, HeaderTooLong, WrongMaxval, WidthOutOfRange, HeightOutOfRange, SampleTooLarge, Truncated, TrailingBytes}
+use Rattle.pnm_frames.specs.Grammar.{is_white, header_limit, IsGap, IsNumeral, Parts, header, IsHeader}
+use Rattle.pnm_frames.specs.Picture.{IsSample, IsWithin}
+
+-- what a header's number may be behind so many others: a width, a height, a maxval
+abbrev pub IsInRange : SizeLimits → ℕ → ℕ → Type 0
+IsInRange limits zero n = (1 ≤ n) × (n ≤ limits.width)
+IsInRange limits (suc zero) n = (1 ≤ n) × (n ≤ limits.height)
+IsInRange limits (suc (suc k)) n = n ≡ 4095
+
+-- the fault of one that isn't
+abbrev pub range_fault : ℕ → Fault
+range_fault zero = WidthOutOfRange
+range_fault (suc zero) = HeightOutOfRange
+range_fault (suc (suc k)) = WrongMaxval
+
+-- bytes of a kind, a gap, and a number that is worth n
+pub record EndsInNumber (IsBefore : List ℕ → Type 0) (n : ℕ) (bytes : List ℕ) : Type 0 where
+  pub before : List ℕ
+  pub gap : List ℕ
+  pub digits : List ℕ
+  pub begins : IsBefore before
+  pub is_gap : IsGap gap
+  pub number : IsNumeral digits n
+  pub whole : bytes ≡ before ++ (gap ++ digits)
+
+-- `P6`, and so many numbers in their ranges, each behind a gap
+abbrev pub HasNumbers : SizeLimits → ℕ → List ℕ → Type 0
+HasNumbers limits zero bytes = bytes ≡ 80 ∷ 54 ∷ []
+HasNumbers limits (suc k) bytes = (n : ℕ) × EndsInNumber (HasNumbers limits k) n bytes × IsInRange limits k n
+
+-- a header that hasn't ended: `P6`, at most two numbers, a gap, and no digits or some of the next number
+pub record IsOpen (limits : SizeLimits) (bytes : List ℕ) : Type 0 where
+  pub numbers : ℕ
+  pub few : numbers < 3
+  pub before : List ℕ
+  pub gap : List ℕ
+  pub digits : List ℕ
+  pub begins : HasNumbers limits numbers before
+  pub is_gap : IsGap gap
+  pub ascii : All (λ b. is_ascii_digit b ≡ true) digits
+  pub whole : bytes ≡ before ++ (gap ++ digits)
+
+-- two bytes of a raster, the high one first
+pub record Pair : Type 0 where
+  pub high : ℕ
+  pub low : ℕ
+
+abbrev pub pair_value : Pair → ℕ
+pair_value pair = 256 * pair.high + pair.low
+
+abbrev pub pair_bytes : Pair → List ℕ
+pair_bytes pair = pair.high ∷ pair.low ∷ []
+
+-- a header of a size within the limits, and samples of 12 bits
+pub record HasSamples (limits : SizeLimits) (bytes : List ℕ) : Type 0 where
+  pub parts : Parts
+  pub width : ℕ
+  pub height : ℕ
+  pub samples : List Pair
+  pub is_header : IsHeader parts width height
+  pub within : IsWithin limits width height
+  pub fit : All (λ pair. IsSample (pair_value pair)) samples
+  pub whole : bytes ≡ header parts ++ flat_map pair_bytes samples
+
+-- a raster in which samples are missing, and one in which none is
+abbrev pub LacksSamples : SizeLimits → List ℕ → Type 0
+LacksSamples limits bytes = (read : HasSamples limits bytes) × (length read.samples < 3 * (read.width * read.height))
+
+abbrev pub HasAllSamples : SizeLimits → List ℕ → Type 0
+HasAllSamples limits bytes = (read : HasSamples limits bytes) × (length read.samples ≡ 3 * (read.width * read.height))
+
+-- what is there of the first two bytes isn't `P6`
+abbrev pub IsNotP6 : List ℕ → Type 0
+IsNotP6 [] = ⊥
+IsNotP6 (p ∷ []) = p ≡ 80 → ⊥
+IsNotP6 (p ∷ six ∷ bytes) = p ≡ 80 → six ≡ 54 → ⊥
+
+-- neither white space nor, behind a gap, a digit
+abbrev pub IsNotAllowed : SizeLimits → List ℕ → ℕ → Type 0
+IsNotAllowed limits front b = (is_white b ≡ false) × ((front ≡ 80 ∷ 54 ∷ []) ⊎ (IsOpen limits front × (is_ascii_digit b ≡ false)))
+
+-- the number behind so many others isn't what it may be, and a white space byte ends it that the longest header still holds
+abbrev pub IsOutOfRange : SizeLimits → ℕ → List ℕ → Type 0
+IsOutOfRange limits k bytes = (front : List ℕ) × (end : ℕ) × (rest : List ℕ) × (n : ℕ) × (bytes ≡ front ++ (end ∷ rest))
+    × EndsInNumber (HasNumbers limits k) n front × (IsInRange limits k n → ⊥) × (is_white end ≡ true) × (length front < header_limit)
+
+-- right as far as it goes, and no whole file
+abbrev pub IsUnfinished : SizeLimits → List ℕ → Type 0
+IsUnfinished limits bytes = (bytes ≡ []) ⊎ ((bytes ≡ 80 ∷ []) ⊎ ((bytes ≡ 80 ∷ 54 ∷ []) ⊎ ((IsOpen limits bytes × (length bytes < header_limit))
+    ⊎ ((front : List ℕ) × (half : List ℕ) × (bytes ≡ front ++ half) × LacksSamples limits front × (length half < 2)))))
+
+-- The file has the fault. What follows the byte that shows it, the last that is named here, may be anything; of Truncated
+-- nothing follows.
+abbrev pub HasFault : SizeLimits → List ℕ → Fault → Type 0
+HasFault limits bytes NotPpm = IsNotP6 bytes
+HasFault limits bytes (BadHeader place) = (front : List ℕ) × (b : ℕ) × (rest : List ℕ) × (bytes ≡ front ++ (b ∷ rest))
+    × (length front ≡ place) × (place < header_limit) × IsNotAllowed limits front b
+HasFault limits bytes HeaderTooLong = (front : List ℕ) × (rest : List ℕ) × (bytes ≡ front ++ rest) × (length front ≡ header_limit) × IsOpen limits front
+HasFault limits bytes WidthOutOfRange = IsOutOfRange limits 0 bytes
+HasFault limits bytes HeightOutOfRange = IsOutOfRange limits 1 bytes
+HasFault limits bytes WrongMaxval = IsOutOfRange limits 2 bytes
+HasFault limits bytes (SampleTooLarge place) = (front : List ℕ) × (pair : Pair) × (rest : List ℕ) × (bytes ≡ front ++ (pair_bytes pair ++ rest))
+    × (length front ≡ place) × LacksSamples limits front × (4095 < pair_value pair)
+HasFault limits bytes (Truncated seen) = (length bytes ≡ seen) × IsUnfinished limits bytes
+HasFault limits bytes TrailingBytes = (front : List ℕ) × (b : ℕ) × (rest : List ℕ) × (bytes ≡ front ++ (b ∷ rest)) × HasAllSamples limits front
