@@ -6,7 +6,7 @@ use Rattle.cine_ports.specs.Source.{File}
 use Rattle.pnm_frames.specs.Fault.{Fault}
 use Rattle.pnm_frames.specs.Picture.{Picture, IsWithin}
 use Rattle.pnm_frames.specs.Reading.{frame_of}
-use Rattle.pnm_frames.proofs.Laws.{frame-sizes}
+use Rattle.pnm_frames.proofs.FaultTold.{frame-sizes}
 use Rattle.frame_encoder.specs.Encoded.{IsWithinLimits}
 use Rattle.frame_encoder.proofs.Packets.{within_limits}
 use Rattle.encode_cli.specs.Visit.{sizes_2k, visit_of, IsWritable}

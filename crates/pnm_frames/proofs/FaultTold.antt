@@ -12,7 +12,7 @@ use Rattle.pnm_frames.specs.declared.limits.SizeLimits.{SizeLimits}
 use Rattle.pnm_frames.specs.Fault.{Fault, NotPpm, BadHeader, HeaderTooLong, SampleTooLarge, Truncated, TrailingBytes, ◌>>=◌}
 use Rattle.pnm_frames.specs.Grammar.{is_white, header_limit, IsGap, header}
 use Rattle.pnm_frames.specs.HasFault.{IsInRange, range_fault, HasNumbers, IsOpen, Pair, pair_value, pair_bytes, HasSamples, HasAllSamples, IsOutOfRange, HasFault}
-use Rattle.pnm_frames.specs.Picture.{Picture, IsSample}
+use Rattle.pnm_frames.specs.Picture.{Picture, IsSample, IsWithin}
 use Rattle.pnm_frames.specs.Reading.{Read, white_at, digits_at, number_at, ranged_at, or_fault, magic_at, header_at, samples_at, ended, frame_of}
 use Rattle.pnm_frames.proofs.FirstFault.{Samples, with_sample, picture, behind_samples, behind_header}
 use Rattle.pnm_frames.proofs.Laws.{IsWhite, IsDigit, Point, Choice, Mark, Sizes, NumberRead, HeaderRead, chosen, value-is, no-value, refused, bind_ok, behind_white, judged, white-found, number-found, magic-found, header-found, gap-of, step1, step3, step5, step7}
@@ -498,3 +498,17 @@ all-told limits bytes p h =
     let none : last.0.1 ≡ [] = nothing-left last.0.1 (picture read.0 last.0.0) p last.2 in
     let same : found.front ≡ bytes = sym (found.whole ∙ ap (λ (t : List ℕ). found.front ++ t) none ∙ append-nil found.front) in
     subst (λ (t : List ℕ). HasAllSamples limits t) same found.all
+
+picture-is : (p q : Picture) (rest : List ℕ) → ended p rest ≡ Ok q → p ≡ q
+picture-is p q [] h = value-is p q h
+picture-is p q (b ∷ rest) h = absurd (no-value h)
+
+-- a picture that is read has sides within the limits
+pub frame-sizes : (limits : SizeLimits) (bytes : List ℕ) (p : Picture) → frame_of limits bytes ≡ Ok p → IsWithin limits p.width p.height
+unfolding frame_of
+frame-sizes limits bytes p h =
+    let head = bind_ok (header_at limits bytes) behind_header p h in
+    let read = head.0 in
+    let last = bind_ok (samples_at (3 * (read.0.0 * read.0.1)) read.1 read.2) (behind_samples read.0) p head.2 in
+    let same : picture read.0 last.0.0 ≡ p = picture-is (picture read.0 last.0.0) p last.0.1 last.2 in
+    subst (λ (q : Picture). IsWithin limits q.width q.height) same (header-found limits bytes read head.1).within

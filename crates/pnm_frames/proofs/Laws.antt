@@ -10,7 +10,7 @@ use Rattle.pnm_frames.specs.declared.limits.SizeLimits.{SizeLimits}
 use Rattle.pnm_frames.specs.Fault.{Fault, ◌>>=◌, BadHeader, HeaderTooLong, NotPpm, WidthOutOfRange, HeightOutOfRange, WrongMaxval}
 use Rattle.pnm_frames.specs.Picture.{Picture, IsWithin, raster}
 use Rattle.pnm_frames.specs.Grammar.{is_white, value_from, IsGap, IsNumeral, Parts, header, header_limit, IsHeader, Spells}
-use Rattle.pnm_frames.specs.Reading.{Read, byte_at, magic_at, white_at, digits_at, number_at, ranged_at, or_fault, header_at, samples_at, plane_of, ended, frame_of}
+use Rattle.pnm_frames.specs.Reading.{Read, byte_at, magic_at, white_at, digits_at, number_at, ranged_at, or_fault, header_at, ended}
 
 -- which way a choice went
 pub chosen : {A : Type 0} (b : Bool) (x y z : A) → cond b x y ≡ z → ((b ≡ true) × (x ≡ z)) ⊎ ((b ≡ false) × (y ≡ z))
@@ -394,36 +394,3 @@ file-found limits p bytes w h at front rest e wide tall parts last =
     let head = header-found limits bytes ((w, h), at, front) e in
     let behind : front ≡ raster p = parts ∙ ap (λ (t : List ℕ). raster p ++ t) (at-end rest last) ∙ append-nil (raster p) in
     (head.parts, rw (wide, tall) head.is_header, head.whole ∙ ap (λ (t : List ℕ). header head.parts ++ t) behind)
-
--- ---- the sizes of a picture that is read
-
-abbrev Samples : Type 0
-Samples = List ℕ × List ℕ
-
-abbrev picture_with : Sizes → Samples → Picture
-picture_with header samples = record {
-  width = header.0.0;
-  height = header.0.1;
-  x = plane_of (λ x y z. x) samples.0;
-  y = plane_of (λ x y z. y) samples.0;
-  z = plane_of (λ x y z. z) samples.0;
-}
-
-abbrev last_step : Sizes → Samples → Result Picture Fault
-last_step header samples = ended (picture_with header samples) samples.1
-
-abbrev samples_step : Sizes → Result Picture Fault
-samples_step header = samples_at (3 * (header.0.0 * header.0.1)) header.1 header.2 >>= last_step header
-
-ended-value : {A : Type 0} (x y : A) (rest : List ℕ) → ended x rest ≡ Ok y → x ≡ y
-ended-value x y [] e = value-is x y e
-ended-value x y (b ∷ rest) e = absurd cc
-
--- a picture that is read has sides within the limits
-pub frame-sizes : (limits : SizeLimits) (bytes : List ℕ) (p : Picture) → frame_of limits bytes ≡ Ok p → IsWithin limits p.width p.height
-unfolding frame_of
-frame-sizes limits bytes p e =
-    let head = bind_ok (header_at limits bytes) samples_step p e in
-    let samples = bind_ok (samples_at (3 * (head.0.0.0 * head.0.0.1)) head.0.1 head.0.2) (last_step head.0) p head.2 in
-    let same : picture_with head.0 samples.0 ≡ p = ended-value (picture_with head.0 samples.0) p samples.0.1 samples.2 in
-    subst (λ (q : Picture). IsWithin limits q.width q.height) same (header-found limits bytes head.0 head.1).within
