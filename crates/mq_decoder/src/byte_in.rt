@@ -1,6 +1,7 @@
 // BYTEIN.
 ghost use Rattle.std.specs.Prelude.{◌≡◌, ◌+◌, ◌-◌, ◌*◌, ◌<◌, ◌≤◌, ◌^◌, length};
-ghost use Rattle.mq_decoder.specs.Bytes.{byte_of, next_byte};
+ghost use Rattle.mq_coder.specs.Decisions.{byte_at};
+ghost use Rattle.mq_decoder.specs.Bytes.{next_byte};
 
 /// A byte read: its place, and how many bits it gives.
 #[derive(Clone, Copy)]
@@ -12,8 +13,9 @@ pub struct ByteIn {
 
 /// The byte at a place, FF behind the end of the string.
 #[inline(always)]
+#[tactic(auto, unfolding(mq_coder::specs::Decisions::byte_at))]
 pub fn byte_at(bytes: &[u8], place: usize) -> u32
-    ensures byte { result ≡ byte_of bytes.now place }
+    ensures byte { result ≡ byte_at bytes.now place }
     ensures eight_bits { result < 2 ^ 8 }
 {
     if place < bytes.len() {
@@ -26,6 +28,7 @@ pub fn byte_at(bytes: &[u8], place: usize) -> u32
 /// The byte that BYTEIN adds behind the one at `place` (ISO/IEC 15444-1, C.3.4): behind FF a byte of
 /// 7 bits, and FF again where a marker or the end of the string follows; else a byte of 8 bits.
 #[inline(always)]
+#[tactic(auto, unfolding(mq_coder::specs::Decisions::byte_at))]
 pub fn byte_in(bytes: &[u8], place: usize) -> ByteIn
     requires { place ≤ length bytes.now }
     ensures read { result ≡ next_byte bytes.now place }
