@@ -3,6 +3,7 @@ use Rattle.std.proofs.Common.{ℕ, ◌+◌, ◌-◌, ◌*◌, ◌^◌, ◌≤◌
 use Rattle.std.proofs.lemmas.List.{length-append, get_or-append-add, set-append_right}
 use Rattle.std.proofs.Math.Seq.{take-append-add}
 use Rattle.mq_coder.specs.Code.{Coding, last_byte, raise_last, put_7, put_8, byte_out, shift_out, set_bits, drop_ff, ended}
+use Rattle.mq_coder.proofs.Flush.{set_bytes}
 
 -- a state with other bytes in front of its own, and other contexts
 abbrev pub behind : List ℕ → List (ℕ × Bool) → Coding → Coding
@@ -87,10 +88,6 @@ set_bits_behind : (front : List ℕ) (contexts : List (ℕ × Bool)) (x : Coding
 unfolding set_bits
 set_bits_behind front contexts x = refl
 
-set_bits_bytes : (x : Coding) → (set_bits x).bytes ≡ x.bytes
-unfolding set_bits
-set_bits_bytes x = refl
-
 either_behind : (front : List ℕ) (b : Bool) (xs ys : List ℕ)
     → (if b then front ++ xs else front ++ ys) ≡ front ++ (if b then xs else ys)
 either_behind front true xs ys = refl
@@ -113,7 +110,7 @@ pub ended_behind : (front : List ℕ) (contexts : List (ℕ × Bool)) (x : Codin
 unfolding ended
 ended_behind front contexts x owns =
     let set = set_bits_behind front contexts x in
-    let first = shift_out_behind front contexts (set_bits x) (rw set_bits_bytes owns) in
+    let first = shift_out_behind front contexts (set_bits x) (rw set_bytes owns) in
     let second = shift_out_behind front contexts (shift_out (set_bits x)) (inr (shift_out_some (set_bits x))) in
     let both : shift_out (shift_out (set_bits (behind front contexts x)))
     ≡ behind front contexts (shift_out (shift_out (set_bits x))) =

@@ -1,10 +1,11 @@
 -- The form of an ended code.
 use Rattle.std.proofs.Common.{ℕ, ◌+◌, ◌-◌, ◌*◌, ◌/◌, ◌^◌, ◌<◌, ◌≤◌, ◌≡◌, inl, inr, Bool, true, false, ◌==◌, nat_lt, if◌then◌else◌, List, [], ◌∷◌, ◌++◌, length, get_or, take, arith, refl, ap, sym, ◌∙◌}
 use Rattle.std.proofs.lemmas.List.{length-append, length-set, take_more, length_push}
-use Rattle.std.proofs.Math.Seq.{take-append_seam, get_or-append_seam}
+use Rattle.std.proofs.Math.Seq.{take-append_seam}
 use Rattle.std.proofs.lemmas.Bool.{cases_eq, eq-eqb, ne_eqb, lt-ltb}
 use Rattle.mq_coder.specs.Code.{Coding, last_byte, raise_last, byte_out, shift_out, set_bits, drop_ff, ended}
 use Rattle.mq_coder.proofs.Behind.{outs, byte_out_is}
+use Rattle.mq_coder.proofs.Out.{last_snoc}
 
 outs_length : (b c d : Bool) (raised : List ℕ) (x : Coding) → length raised ≡ length x.bytes
     → length (outs b c d raised x).bytes ≡ length x.bytes + 1
@@ -51,12 +52,6 @@ byte_out_appends x low =
     (outs_appends (last_byte x.bytes == 255) (last_byte x.bytes + 1 == 255) (raise_last x.bytes) x low
     (eq-eqb (last_byte x.bytes) 255))
 
--- the last of one more
-last_byte_more : (bytes : List ℕ) (byte : ℕ) → last_byte (bytes ++ byte ∷ []) ≡ byte
-last_byte_more bytes byte =
-    let e : length (bytes ++ byte ∷ []) - 1 ≡ length bytes = omega (arith, length_push bytes byte) in
-    rw e (get_or-append_seam bytes byte [] 0)
-
 take_but_last : (bytes : List ℕ) (byte : ℕ) → take (length (bytes ++ byte ∷ []) - 1) (bytes ++ byte ∷ []) ≡ bytes
 take_but_last bytes byte =
     let e : length (bytes ++ byte ∷ []) - 1 ≡ length bytes = omega (arith, length_push bytes byte) in
@@ -68,7 +63,7 @@ drop_ff_more : (bytes : List ℕ) (byte : ℕ)
 unfolding drop_ff
 drop_ff_more bytes byte =
     ap (λ (n : ℕ). if n == 255 then take (length (bytes ++ byte ∷ []) - 1) (bytes ++ byte ∷ []) else bytes ++ byte ∷ [])
-    (last_byte_more bytes byte)
+    (last_snoc bytes byte)
     ∙ ap (λ (ys : List ℕ). if byte == 255 then ys else bytes ++ byte ∷ []) (take_but_last bytes byte)
 
 -- a form of the ended code
@@ -88,7 +83,7 @@ dropped_ended bytes byte some seven = elim (cases_eq byte 255) [
   | inr n ↦ rw (drop_ff_more, ne_eqb byte 255 n) (record {
     one_more = omega (arith, length_push bytes byte);
     two_more = omega (arith, length_push bytes byte);
-    no_ff = λ f. n (sym (last_byte_more bytes byte) ∙ f);
+    no_ff = λ f. n (sym (last_snoc bytes byte) ∙ f);
   })
 ]
 
