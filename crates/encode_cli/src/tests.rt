@@ -20,6 +20,15 @@ const DEEP: &[u8] = b"P6\n1 1\n65535\n\x08\x00\x08\x00\x08\x00";
 /// The same with a first sample of 4096.
 const LARGE: &[u8] = b"P6\n1 1\n4095\n\x10\x00\x08\x00\x08\x00";
 
+/// The same with three samples of 4095.
+const WHITE: &[u8] = b"P6\n1 1\n4095\n\x0F\xFF\x0F\xFF\x0F\xFF";
+
+/// The same with three samples of 0.
+const BLACK: &[u8] = b"P6\n1 1\n4095\n\x00\x00\x00\x00\x00\x00";
+
+/// The same with three samples of 2049.
+const NEARLY_GREY: &[u8] = b"P6\n1 1\n4095\n\x08\x01\x08\x01\x08\x01";
+
 /// The codestream of a frame of one pixel. The bytes come from a dump that was made by two programs which share no
 /// code with this one.
 #[rattlefmt::skip]
@@ -42,8 +51,22 @@ const CODESTREAM: &[u8] = &[
     0xFF, 0xD9,
 ];
 
-/// The budgets of such a frame.
-const BUDGETS: &str = "2k 1x1 frame=191/1302083/0 c0=20/1041666/0 c1=20/1041666/0 c2=20/1041666/0";
+/// The line of a grey frame called `a`.
+const LINE: &str =
+    "ok a 2k 1x1 frame=191/1302083/0 c0=20/1041666/0 c1=20/1041666/0 c2=20/1041666/0 passes=0 empty=0 distortion=0\n";
+
+/// The lines of a grey frame, a frame of 16 bits a sample, a grey frame, and one with a sample too large.
+const LINES: &str = "\
+ok a 2k 1x1 frame=191/1302083/0 c0=20/1041666/0 c1=20/1041666/0 c2=20/1041666/0 passes=0 empty=0 distortion=0\n\
+refused e 4 WrongMaxval\n\
+ok f%7E 2k 1x1 frame=191/1302083/0 c0=20/1041666/0 c1=20/1041666/0 c2=20/1041666/0 passes=0 empty=0 distortion=0\n\
+refused g 7 SampleTooLarge 12\n";
+
+/// The lines of a white, a black and a nearly grey frame.
+const DISTORTIONS: &str = "\
+ok b 2k 1x1 frame=191/1302083/0 c0=20/1041666/0 c1=20/1041666/0 c2=20/1041666/0 passes=0 empty=68652908289 distortion=68652908289\n\
+ok c 2k 1x1 frame=191/1302083/0 c0=20/1041666/0 c1=20/1041666/0 c2=20/1041666/0 passes=0 empty=68720001025 distortion=68720001025\n\
+ok d 2k 1x1 frame=191/1302083/0 c0=20/1041666/0 c1=20/1041666/0 c2=20/1041666/0 passes=0 empty=16641 distortion=16641\n";
 
 const COMMAND: &str = "encode src dst --profile 2k";
 
@@ -119,44 +142,20 @@ fn each_frame_has_its_output_and_its_line(rt: HostRuntime) -> Result<(), Fail> {
     assert_eq!(rt; ended.outputs.files().len(), 2);
     assert!(rt; is_file(ended.outputs.files().get(0), "a.j2c", CODESTREAM));
     assert!(rt; is_file(ended.outputs.files().get(1), "f~.j2c", CODESTREAM));
-    let first = format!(in alloc;
-        "ok a {BUDGETS} passes=0 empty=0 distortion=0\nrefused e 4 WrongMaxval\n"
-    )?;
-    let said = format!(in alloc;
-        "{first}ok f%7E {BUDGETS} passes=0 empty=0 distortion=0\nrefused g 7 SampleTooLarge 12\n"
-    )?;
-    assert!(rt; ended.report.bytes() == said.as_bytes());
+    assert!(rt; ended.report.bytes() == LINES.as_bytes());
     Ok(())
-}
-
-/// A frame of one pixel, its three samples the same.
-fn pixel(alloc: Global, high: u8, low: u8) -> Result<Vec<u8>, AllocError> {
-    let mut bytes = Vec::from_slice(alloc, b"P6\n1 1\n4095\n")?;
-    for _plane in 0..3 {
-        bytes.push(high)?;
-        bytes.push(low)?;
-    }
-    Ok(bytes)
 }
 
 #[test]
 fn a_line_tells_the_distortion(rt: HostRuntime) -> Result<(), Fail> {
     let alloc = rt.alloc();
     let mut files = Vec::new(alloc);
-    files.push(file(alloc, "b", pixel(alloc, 0x0F, 0xFF)?.as_slice())?)?;
-    files.push(file(alloc, "c", pixel(alloc, 0, 0)?.as_slice())?)?;
-    files.push(file(alloc, "d", pixel(alloc, 8, 1)?.as_slice())?)?;
+    files.push(file(alloc, "b", WHITE)?)?;
+    files.push(file(alloc, "c", BLACK)?)?;
+    files.push(file(alloc, "d", NEARLY_GREY)?)?;
     let ended = run_over(alloc, COMMAND, files, &[], &[])?;
     assert_eq!(rt; ended.status, 0);
-    let b = format!(in alloc;
-        "ok b {BUDGETS} passes=0 empty=68652908289 distortion=68652908289\n"
-    )?;
-    let c = format!(in alloc;
-        "ok c {BUDGETS} passes=0 empty=68720001025 distortion=68720001025\n"
-    )?;
-    let d = format!(in alloc; "ok d {BUDGETS} passes=0 empty=16641 distortion=16641\n")?;
-    let said = format!(in alloc; "{b}{c}{d}")?;
-    assert!(rt; ended.report.bytes() == said.as_bytes());
+    assert!(rt; ended.report.bytes() == DISTORTIONS.as_bytes());
     assert!(rt; is_file(ended.outputs.files().get(2), "d.j2c", CODESTREAM));
     Ok(())
 }
@@ -172,8 +171,7 @@ fn a_fault_of_the_outputs_ends_a_run(rt: HostRuntime) -> Result<(), Fail> {
     assert_eq!(rt; ended.outputs.files().len(), 1);
     assert!(rt; is_file(ended.outputs.files().get(0), "a.j2c", CODESTREAM));
     assert!(rt; is_file(ended.outputs.unfinished(), "d.j2c", &CODESTREAM[..100]));
-    let said = format!(in alloc; "ok a {BUDGETS} passes=0 empty=0 distortion=0\n")?;
-    assert!(rt; ended.report.bytes() == said.as_bytes());
+    assert!(rt; ended.report.bytes() == LINE.as_bytes());
     Ok(())
 }
 
@@ -211,13 +209,12 @@ fn other_words_are_no_command(rt: HostRuntime) -> Result<(), Fail> {
     Ok(())
 }
 
-/// Runs over the folders `src` and `dst` below a folder.
-fn run_below(rt: &HostRuntime, folder: &str) -> Result<(u8, MemoryReport), Fail> {
+/// Runs over these folders.
+fn run_between(rt: &HostRuntime, source: &str, target: &str) -> Result<(u8, MemoryReport), Fail> {
     let alloc = rt.alloc();
-    let source = format!(in alloc; "{folder}/src")?;
-    let target = format!(in alloc; "{folder}/dst")?;
-    let mut frames = FolderFrames::new(rt.clone()?, source, String::from_str(alloc, ".ppm")?);
-    let mut outputs = FolderOutputs::new(rt.clone()?, target);
+    let suffix = String::from_str(alloc, ".ppm")?;
+    let mut frames = FolderFrames::new(rt.clone()?, String::from_str(alloc, source)?, suffix);
+    let mut outputs = FolderOutputs::new(rt.clone()?, String::from_str(alloc, target)?);
     let mut report = MemoryReport::new(alloc, Vec::new(alloc), 1000);
     let words = words(alloc, COMMAND)?;
     let status = run(
@@ -236,12 +233,11 @@ fn folder_to_folder(rt: HostRuntime) -> Result<(), Fail> {
     let _ = fs::remove_dir_all(&rt, "test-run");
     fs::create_dir_all(&rt, "test-run/src")?;
     fs::write(&rt, "test-run/src/a.ppm", GREY)?;
-    let (status, report) = run_below(&rt, "test-run")?;
+    let (status, report) = run_between(&rt, "test-run/src", "test-run/dst")?;
     assert_eq!(rt; status, 0);
     let written = fs::read(&rt, "test-run/dst/a.j2c")?;
     assert!(rt; written.as_slice() == CODESTREAM);
-    let said = format!(in alloc; "ok a {BUDGETS} passes=0 empty=0 distortion=0\n")?;
-    assert!(rt; report.bytes() == said.as_bytes());
+    assert!(rt; report.bytes() == LINE.as_bytes());
     fs::remove_dir_all(&rt, "test-run")?;
     Ok(())
 }
@@ -252,7 +248,7 @@ fn an_output_that_cant_have_its_name_ends_a_run(rt: HostRuntime) -> Result<(), F
     fs::create_dir_all(&rt, "test-taken/dst/a.j2c/taken")?;
     fs::create_dir_all(&rt, "test-taken/src")?;
     fs::write(&rt, "test-taken/src/a.ppm", GREY)?;
-    let (status, report) = run_below(&rt, "test-taken")?;
+    let (status, report) = run_between(&rt, "test-taken/src", "test-taken/dst")?;
     assert_eq!(rt; status, 4);
     assert!(rt; report.bytes().is_empty());
     let unfinished = fs::read(&rt, "test-taken/dst/a.j2c.part")?;
