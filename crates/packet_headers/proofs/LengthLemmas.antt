@@ -99,5 +99,5 @@ some_bit false words = omega arith
 pub header_some : (words : PacketWords) → 1 ≤ length (packed (header_words words))
 header_some words = packed_some 8 [] (header_words words) (some_bit words.begins words)
 
-pub counted_few : (whole part filled width all : ℕ) (bits : List Bool) → Counts whole part filled width all bits → all ≤ 3361 → length (packed bits) ≤ 449
-counted_few whole part filled width all bits s h = let n : length bits ≡ all = s.all_are in let p = packed_short bits 3361 (omega arith) in omega arith
+pub counted_few : (whole held filled all : ℕ) (bits : List Bool) → Counts whole held filled all bits → all ≤ 3361 → length (packed bits) ≤ 449
+counted_few whole held filled all bits s h = let n : length bits ≡ all = s.all_are in let p = packed_short bits 3361 (omega arith) in omega arith

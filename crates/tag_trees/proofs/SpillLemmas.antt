@@ -1,15 +1,16 @@
 -- What a sink keeps while the bits of a number fill its bytes.
-use Rattle.std.proofs.Common.{◌≡◌, ℕ, suc, zero, ◌+◌, ◌-◌, ◌*◌, ◌/◌, ◌%◌, ◌^◌, ◌<◌, ◌≤◌, Bool, true, false, List, [], ◌∷◌, ◌++◌, length, refl, sym, ap, ◌∙◌, arith, append_assoc, length-append, add-one}
+use Rattle.std.proofs.Common.{◌≡◌, ℕ, suc, zero, ◌+◌, ◌-◌, ◌*◌, ◌/◌, ◌%◌, ◌^◌, ◌<◌, ◌≤◌, Bool, true, false, List, [], ◌∷◌, ◌++◌, length, refl, sym, ap, subst, ◌∙◌, arith, eqb, append_assoc, length-append, add-one}
+use Rattle.std.proofs.lemmas.Bool.{eq-eqb, ne_eqb}
 use Rattle.std.specs.Prelude.{◌==◌, replicate, bit_and}
 use Rattle.std.proofs.lemmas.List.{append-nil, replicate_more, length_push}
-use Rattle.std.proofs.lemmas.Nat.{pow-add, div-add-mod', and_mask}
-use Rattle.std.proofs.Math.Pow.{pow_mono}
-use Rattle.std.proofs.Math.Nat.{pow-suc, one-le-pow, mul-le-mul_right, mod-lt, div-lt_iff_lt-mul}
+use Rattle.std.proofs.lemmas.Nat.{pow-add, div-add-mod', and_mask, field_of, mod-pow-add, div-mul-add, mod-mul-add}
+use Rattle.std.proofs.Math.Pow.{pow_mono, mod-mod-pow}
+use Rattle.std.proofs.Math.Nat.{pow-suc, one-le-pow, mul-le-mul_right, mod-lt, mod-eq_of_lt, div-lt_iff_lt-mul}
 use Rattle.tag_trees.specs.Bits.{number, width_behind, useful, IsStuffed, ends_in_ff}
 use Rattle.tag_trees.specs.BitState.{Keeps, Spills, Counts}
 use Rattle.tag_trees.specs.Stuffing.{packed}
 use Rattle.tag_trees.proofs.PackLemmas.{finish_part, finish_ff, finish_whole}
-use Rattle.tag_trees.proofs.BitLemmas.{number-length, useful-push, ends-push, stuffed-push, useful-length, width_le}
+use Rattle.tag_trees.proofs.BitLemmas.{number-length, useful-push, ends-push, stuffed-push, useful-length, seven_le, width_le}
 
 -- the bits of one number behind those of another
 pub number-join : (a b x y : ℕ) → y < 2 ^ b → number (a + b) (x * 2 ^ b + y) ≡ number a x ++ number b y
@@ -133,7 +134,7 @@ mask_is held left h =
     ap (λ k. bit_and held (k - 1)) e ∙ and_mask held left
 
 -- a byte that is full has 256 values at most
-pub byte_fits : (held filled width left : ℕ) → held < 2 ^ filled → left + width ≡ filled → width ≤ 8 → held / 2 ^ left < 256
+byte_fits : (held filled width left : ℕ) → held < 2 ^ filled → left + width ≡ filled → width ≤ 8 → held / 2 ^ left < 256
 byte_fits held filled width left below e most =
     let p : 0 < 2 ^ left = one-le-pow left 2 (omega arith) in
     let q : 2 ^ filled ≡ 2 ^ left * 2 ^ width = ap (λ k. 2 ^ k) (sym e) ∙ pow-add 2 left width in
@@ -145,56 +146,141 @@ pub byte_small : (bytes : List ℕ) (held filled width left : ℕ) (bits : List 
 byte_small bytes held filled width left bits s e =
     byte_fits held filled width left s.below e (rw s.width_is (width_le (ends_in_ff false bytes)))
 
--- what is left of them
-pub left_below : (held left low : ℕ) → low ≡ held % 2 ^ left → low < 2 ^ left
-left_below held left low e = rw e (mod-lt held (one-le-pow left 2 (omega arith)))
+-- a number behind bits in a register of 64, of which those counted leave at the high end
+low_shifted : (held k w : ℕ) → held * 2 ^ w % 2 ^ (k + w) ≡ held % 2 ^ k * 2 ^ w
+low_shifted held k w =
+    let p : 0 < 2 ^ w = one-le-pow w 2 (omega arith) in
+    let half = div-mul-add held (2 ^ w) 0 p in
+    let none = mod-mul-add held (2 ^ w) 0 p in
+    let z : held * 2 ^ w + 0 ≡ held * 2 ^ w = omega arith in
+    let e = mod-pow-add (held * 2 ^ w) k w in
+    let half' : held * 2 ^ w / 2 ^ w ≡ held = ap (λ n. n / 2 ^ w) (sym z) ∙ half in
+    let none' : held * 2 ^ w % 2 ^ w ≡ 0 = ap (λ n. n % 2 ^ w) (sym z) ∙ none in
+    e ∙ ap (λ n. n % 2 ^ k * 2 ^ w + held * 2 ^ w % 2 ^ w) half' ∙ ap (λ n. held % 2 ^ k * 2 ^ w + n) none' ∙ (omega arith)
+
+register_shifted : (held w : ℕ) → w ≤ 64 → held * 2 ^ w % 18446744073709551616 ≡ held % 2 ^ (64 - w) * 2 ^ w
+register_shifted held w h =
+    let e : 64 ≡ 64 - w + w = omega arith in
+    ap (λ n. held * 2 ^ w % 2 ^ n) e ∙ low_shifted held (64 - w) w
+
+pub register_fits : (held w value : ℕ) → w ≤ 50 → value < 2 ^ w → held * 2 ^ w % 18446744073709551616 + value < 18446744073709551616
+register_fits held w value h v =
+    let p : 0 < 2 ^ (64 - w) = one-le-pow (64 - w) 2 (omega arith) in
+    let e : 64 - w + w ≡ 64 = omega arith in
+    let b = join_below (held % 2 ^ (64 - w)) (64 - w) value w (mod-lt held p) v in
+    rw (register_shifted held w (omega arith)) (rw e at b)
+
+register_low : (held w filled value : ℕ) → value < 2 ^ w → filled + w ≤ 64
+    → (held * 2 ^ w % 18446744073709551616 + value) % 2 ^ (filled + w) ≡ held % 2 ^ filled * 2 ^ w + value
+register_low held w filled value v r =
+    let s = register_shifted held w (omega arith) in
+    let e : 64 - w ≡ 64 - w - filled + filled = omega arith in
+    let m : held % 2 ^ (64 - w) % 2 ^ filled ≡ held % 2 ^ filled = ap (λ n. held % 2 ^ n % 2 ^ filled) e ∙ mod-mod-pow held (64 - w - filled) filled in
+    ap (λ n. (n + value) % 2 ^ (filled + w)) s
+    ∙ mod-pow-add (held % 2 ^ (64 - w) * 2 ^ w + value) filled w
+    ∙ ap (λ n. n % 2 ^ filled * 2 ^ w + (held % 2 ^ (64 - w) * 2 ^ w + value) % 2 ^ w) (div-mul-add (held % 2 ^ (64 - w)) (2 ^ w) value v)
+    ∙ ap (λ n. held % 2 ^ (64 - w) % 2 ^ filled * 2 ^ w + n) (mod-mul-add (held % 2 ^ (64 - w)) (2 ^ w) value v)
+    ∙ ap (λ n. n * 2 ^ w + value) m
 
 -- a counter has the same bits as the bytes that it counts
-pub counts_more : (whole part filled width all value w : ℕ) (bits : List Bool) → Counts whole part filled width all bits → value < 2 ^ w → all + w ≤ 7000
-    → Counts whole (part * 2 ^ w + value) (filled + w) width (all + w) (bits ++ number w value)
-counts_more whole part filled width all value w bits s h few =
+pub counts_more : (whole held filled all value w : ℕ) (bits : List Bool) → Counts whole held filled all bits → value < 2 ^ w → filled + w ≤ 64 → all + w ≤ 7000
+    → Counts whole (held * 2 ^ w % 18446744073709551616 + value) (filled + w) (all + w) (bits ++ number w value)
+counts_more whole held filled all value w bits s h room few =
     let n : length bits ≡ all = s.all_are in
+    let f : filled ≡ s.begun + (8 - s.width) = s.filled_is in
     record {
       bytes = s.bytes;
+      begun = s.begun + w;
+      width = s.width;
       whole_are = s.whole_are;
       all_are = simp (length-append, number-length) (omega arith);
-      spills = spill_more s.bytes part filled width value w bits s.spills h (omega arith);
+      filled_is = omega arith;
+      spills = rw (register_low held w filled value h room) (spill_more s.bytes (held % 2 ^ filled) s.begun s.width value w bits s.spills h (omega arith));
     }
 
-pub counts_byte : (whole held filled width all left byte low next : ℕ) (bits : List Bool) → Counts whole held filled width all bits → left + width ≡ filled
-    → byte ≡ held / 2 ^ left → low ≡ held % 2 ^ left → next ≡ width_behind (byte == 255) → Counts (whole + 1) low left next all bits
-counts_byte whole held filled width all left byte low next bits s e b l n = record {
-  bytes = s.bytes ++ byte ∷ [];
-  whole_are = (let w : length s.bytes ≡ whole = s.whole_are in simp length-append (omega arith));
-  all_are = s.all_are;
-  spills = spill_byte s.bytes held filled width left byte low next bits s.spills e b l n;
-}
+-- a byte is counted, and what is left is this
+byte_counted : (whole held filled all left : ℕ) (bits : List Bool) (s : Counts whole held filled all bits) → left + 8 ≡ filled
+    → Spills (s.bytes ++ held / 2 ^ left % 2 ^ 8 ∷ []) (held % 2 ^ left) left (width_behind (held / 2 ^ left % 2 ^ 8 == 255)) bits
+byte_counted whole held filled all left bits s e =
+    let f : filled ≡ s.begun + (8 - s.width) = s.filled_is in
+    let w : s.width ≤ 8 = rw s.spills.width_is (width_le (ends_in_ff false s.bytes)) in
+    let k : 8 + left ≡ filled = omega arith in
+    spill_byte s.bytes (held % 2 ^ filled) s.begun s.width left (held / 2 ^ left % 2 ^ 8) (held % 2 ^ left) _ bits s.spills (omega arith)
+    (sym (ap (λ n. held % 2 ^ n / 2 ^ left) (sym k) ∙ field_of held 8 left)) (sym (ap (λ n. held % 2 ^ n % 2 ^ left) (sym k) ∙ mod-mod-pow held 8 left)) refl
 
--- the number of bytes at the end: one more where a byte is begun, or behind FF
+pub counts_byte : (whole held filled all left : ℕ) (bits : List Bool) → Counts whole held filled all bits → left + 8 ≡ filled → (held / 2 ^ left % 2 ^ 8 ≡ 255 → ⊥)
+    → Counts (whole + 1) held left all bits
+counts_byte whole held filled all left bits s e h =
+    let b = byte_counted whole held filled all left bits s e in
+    let w : length s.bytes ≡ whole = s.whole_are in
+    let o : eqb (held / 2 ^ left % 2 ^ 8) 255 ≡ false = ne_eqb (held / 2 ^ left % 2 ^ 8) 255 h in
+    record {
+      bytes = s.bytes ++ held / 2 ^ left % 2 ^ 8 ∷ [];
+      begun = left;
+      width = 8;
+      whole_are = simp length-append (omega arith);
+      all_are = s.all_are;
+      filled_is = omega arith;
+      spills = subst (λ n. Spills (s.bytes ++ held / 2 ^ left % 2 ^ 8 ∷ []) (held % 2 ^ left) left n bits) (ap width_behind o) b;
+    }
+
+-- behind a byte FF stands a stuffed 0
+pub counts_byte_ff : (whole held filled all left low : ℕ) (bits : List Bool) → Counts whole held filled all bits → left + 8 ≡ filled → held / 2 ^ left % 2 ^ 8 ≡ 255
+    → low ≡ held % 2 ^ left → Counts (whole + 1) low (left + 1) all bits
+counts_byte_ff whole held filled all left low bits s e h l =
+    let b = byte_counted whole held filled all left bits s e in
+    let w : length s.bytes ≡ whole = s.whole_are in
+    let o : eqb (held / 2 ^ left % 2 ^ 8) 255 ≡ true = eq-eqb (held / 2 ^ left % 2 ^ 8) 255 h in
+    let p : 0 < 2 ^ left = one-le-pow left 2 (omega arith) in
+    let q : 2 ^ left ≤ 2 ^ (left + 1) = pow_mono (omega arith) in
+    let below : held % 2 ^ left < 2 ^ left = mod-lt held p in
+    let same : low % 2 ^ (left + 1) ≡ held % 2 ^ left = rw l (mod-eq_of_lt (omega arith)) in
+    record {
+      bytes = s.bytes ++ held / 2 ^ left % 2 ^ 8 ∷ [];
+      begun = left;
+      width = 7;
+      whole_are = simp length-append (omega arith);
+      all_are = s.all_are;
+      filled_is = omega arith;
+      spills = rw same (subst (λ n. Spills (s.bytes ++ held / 2 ^ left % 2 ^ 8 ∷ []) (held % 2 ^ left) left n bits) (ap width_behind o) b);
+    }
+
+-- the number of bytes at the end: one more where a bit is left, and be it a stuffed 0
 one_more : (bytes all : List ℕ) (byte whole : ℕ) → length bytes ≡ whole → bytes ++ byte ∷ [] ≡ all → whole + 1 ≡ length all
 one_more bytes all byte whole w e = let l = ap length e in let m = length_push bytes byte in omega arith
 
-pub counts_begun : (whole part filled width all : ℕ) (bits : List Bool) → Counts whole part filled width all bits → filled < width
-    → 0 < filled → whole + 1 ≡ length (packed bits)
-counts_begun whole part filled width all bits s h f =
-    one_more _ _ _ whole s.whole_are (finish_part s.bytes part filled width (spills_keeps s.bytes part filled width bits s.spills h) f ∙ ap packed s.spills.bits_are)
+left_counted : (bytes : List ℕ) (part begun whole : ℕ) (bits : List Bool) (ff : Bool) → length bytes ≡ whole → Spills bytes part begun (width_behind ff) bits → begun + (8 - width_behind ff) < 8
+    → 0 < begun + (8 - width_behind ff) → whole + 1 ≡ length (packed bits)
+left_counted bytes part (suc begun) whole bits ff w s h f =
+    let most = width_le ff in
+    one_more _ _ _ whole w (finish_part bytes part (suc begun) (width_behind ff) (spills_keeps bytes part (suc begun) (width_behind ff) bits s (omega arith)) (omega arith) ∙ ap packed s.bits_are)
+left_counted bytes part zero whole bits true w s h f =
+    one_more _ _ _ whole w (finish_ff bytes part 0 7 (spills_keeps bytes part 0 7 bits s (omega arith)) (omega arith) refl ∙ ap packed s.bits_are)
+left_counted bytes part zero whole bits false w s h f = absurd (omega arith)
 
-pub counts_ff : (whole part filled width all : ℕ) (bits : List Bool) → Counts whole part filled width all bits → filled < width
-    → filled ≤ 0 → width ≡ 7 → whole + 1 ≡ length (packed bits)
-counts_ff whole part filled width all bits s h f n =
-    one_more _ _ _ whole s.whole_are (finish_ff s.bytes part filled width (spills_keeps s.bytes part filled width bits s.spills h) f n ∙ ap packed s.spills.bits_are)
+pub counts_begun : (whole held filled all : ℕ) (bits : List Bool) → Counts whole held filled all bits → filled < 8 → 0 < filled → whole + 1 ≡ length (packed bits)
+counts_begun whole held filled all bits s h f =
+    let e : filled ≡ s.begun + (8 - s.width) = s.filled_is in
+    let w : s.width ≡ width_behind (ends_in_ff false s.bytes) = s.spills.width_is in
+    left_counted s.bytes (held % 2 ^ filled) s.begun whole bits (ends_in_ff false s.bytes) s.whole_are (subst (λ n. Spills s.bytes (held % 2 ^ filled) s.begun n bits) w s.spills)
+    (rw (← w, ← e) h) (rw (← w, ← e) f)
 
-pub counts_whole : (whole part filled width all : ℕ) (bits : List Bool) → Counts whole part filled width all bits → filled < width
-    → filled ≤ 0 → (width ≡ 7 → ⊥) → whole ≡ length (packed bits)
-counts_whole whole part filled width all bits s h f n =
-    sym s.whole_are ∙ ap length (finish_whole s.bytes part filled width (spills_keeps s.bytes part filled width bits s.spills h) f n ∙ ap packed s.spills.bits_are)
+pub counts_whole : (whole held filled all : ℕ) (bits : List Bool) → Counts whole held filled all bits → filled ≤ 0 → whole ≡ length (packed bits)
+counts_whole whole held filled all bits s f =
+    let e : filled ≡ s.begun + (8 - s.width) = s.filled_is in
+    let w : 7 ≤ s.width = rw s.spills.width_is (seven_le (ends_in_ff false s.bytes)) in
+    sym s.whole_are
+    ∙ ap length (finish_whole s.bytes (held % 2 ^ filled) s.begun s.width (spills_keeps s.bytes (held % 2 ^ filled) s.begun s.width bits s.spills (omega arith)) (omega arith) (λ k. omega arith) ∙ ap packed s.spills.bits_are)
 
-pub counts_none : Counts 0 0 0 8 0 []
+pub counts_none : Counts 0 0 0 0 []
 unfolding useful number IsStuffed ends_in_ff
 counts_none = record {
   bytes = [];
+  begun = 0;
+  width = 8;
   whole_are = refl;
   all_are = refl;
+  filled_is = refl;
   spills = record { width_is = refl; below = omega arith; few = omega arith; stuffed = tt; bits_are = refl };
 }
 

@@ -1,13 +1,11 @@
 -- Four bytes at a time.
-use Rattle.std.proofs.Common.{◌≡◌, ℕ, ◌+◌, ◌*◌, ◌/◌, ◌%◌, ◌^◌, ◌<◌, ◌≤◌, Bool, false, List, refl, sym, ap, subst, ◌∙◌, arith, eqb}
+use Rattle.std.proofs.Common.{◌≡◌, ℕ, ◌+◌, ◌*◌, ◌/◌, ◌%◌, ◌^◌, ◌<◌, Bool, List, refl, sym, ap, subst, ◌∙◌, arith}
 use Rattle.std.specs.Prelude.{bit_and}
-use Rattle.std.proofs.lemmas.Bool.{ne_eqb}
-use Rattle.std.proofs.lemmas.Nat.{pow-add, shr-shr, mod-pow-add, field_of, and_block, and_le_r, mod-mul-add}
-use Rattle.std.proofs.Math.Nat.{mod-lt, mod-eq_of_lt, one-le-pow, div-lt_iff_lt-mul}
-use Rattle.tag_trees.specs.Bits.{width_behind}
+use Rattle.std.proofs.lemmas.Nat.{shr-shr, field_of, and_block, and_le_r}
+use Rattle.std.proofs.Math.Nat.{mod-lt}
 use Rattle.tag_trees.specs.BitState.{Counts, HasNoFf}
-use Rattle.tag_trees.proofs.SpillLemmas.{counts_byte, join_below}
-use Rattle.std.proofs.Math.Pow.{pow_mono}
+use Rattle.std.proofs.Math.Pow.{mod-mod-pow}
+use Rattle.tag_trees.proofs.SpillLemmas.{counts_byte}
 
 -- the test of one digit, and of digits in front of it
 abbrev pub test_of : ℕ → ℕ → ℕ → ℕ → ℕ
@@ -60,56 +58,26 @@ no_ff word h =
       last = λ e. a.1 (let s : word / 2 ^ 0 ≡ word = omega arith in ap (λ n. n % 2 ^ 8) (sym s) ∙ e);
     }
 
-mod_twice : (n j k : ℕ) → n % 2 ^ (j + k) % 2 ^ k ≡ n % 2 ^ k
-mod_twice n j k =
-    ap (λ m. m % 2 ^ k) (mod-pow-add n j k) ∙ mod-mul-add (n / 2 ^ k % 2 ^ j) (2 ^ k) (n % 2 ^ k) (mod-lt n (one-le-pow k 2 (omega arith)))
-
--- a byte that isn't FF is counted
-digit_step : (whole held k all : ℕ) (bits : List Bool) → Counts whole (held % 2 ^ (8 + k)) (8 + k) 8 all bits → (held / 2 ^ k % 2 ^ 8 ≡ 255 → ⊥) → Counts (whole + 1) (held % 2 ^ k) k 8 all bits
-digit_step whole held k all bits s h =
-    let other : eqb (held % 2 ^ (8 + k) / 2 ^ k) 255 ≡ false = ne_eqb (held % 2 ^ (8 + k) / 2 ^ k) 255 (λ e. h (sym (field_of held 8 k) ∙ e)) in
-    counts_byte whole (held % 2 ^ (8 + k)) (8 + k) 8 all k (held % 2 ^ (8 + k) / 2 ^ k) (held % 2 ^ k) 8 bits s (omega arith) refl (sym (mod_twice held 8 k)) (sym (ap width_behind other))
+-- the bytes of the low four bytes of a number are the number's own
+pub word_no_ff : (n : ℕ) → HasNoFf (n % 2 ^ 32) → HasNoFf n
+word_no_ff n h = record {
+  first = λ e. h.first (ap (λ m. m % 2 ^ 8) (field_of n 8 24) ∙ mod-mod-pow (n / 2 ^ 24) 0 8 ∙ e);
+  second = λ e. h.second (ap (λ m. m % 2 ^ 8) (field_of n 16 16) ∙ mod-mod-pow (n / 2 ^ 16) 8 8 ∙ e);
+  third = λ e. h.third (ap (λ m. m % 2 ^ 8) (field_of n 24 8) ∙ mod-mod-pow (n / 2 ^ 8) 16 8 ∙ e);
+  last = λ e. h.last (ap (λ m. m % 2 ^ 8) (field_of n 32 0) ∙ mod-mod-pow (n / 2 ^ 0) 24 8 ∙ e);
+}
 
 digit_at : (held left n k : ℕ) → left + n ≡ k → (held / 2 ^ left / 2 ^ n % 2 ^ 8 ≡ 255 → ⊥) → held / 2 ^ k % 2 ^ 8 ≡ 255 → ⊥
 digit_at held left n k e h f = h (ap (λ m. m % 2 ^ 8) (shr-shr held left n ∙ ap (λ m. held / 2 ^ m) e) ∙ f)
 
 -- four bytes are counted
-pub counts_word : (whole held filled all left : ℕ) (bits : List Bool) → Counts whole held filled 8 all bits → left + 32 ≡ filled → HasNoFf (held / 2 ^ left)
-    → Counts (whole + 4) (held % 2 ^ left) left 8 all bits
-counts_word whole held filled all left bits s e h =
-    let below : held < 2 ^ filled = s.spills.below in
-    let all_of : filled ≡ 8 + (8 + (8 + (8 + left))) = omega arith in
-    let held_is : held ≡ held % 2 ^ (8 + (8 + (8 + (8 + left)))) = sym (mod-eq_of_lt (rw all_of at below)) in
-    let first : Counts whole (held % 2 ^ (8 + (8 + (8 + (8 + left))))) (8 + (8 + (8 + (8 + left)))) 8 all bits =
-    subst (λ n. Counts whole n (8 + (8 + (8 + (8 + left)))) 8 all bits) held_is (subst (λ n. Counts whole held n 8 all bits) all_of s) in
-    let a = digit_step whole held (8 + (8 + (8 + left))) all bits first (digit_at held left 24 (8 + (8 + (8 + left))) (omega arith) h.first) in
-    let b = digit_step (whole + 1) held (8 + (8 + left)) all bits a (digit_at held left 16 (8 + (8 + left)) (omega arith) h.second) in
-    let c = digit_step (whole + 1 + 1) held (8 + left) all bits b (digit_at held left 8 (8 + left) (omega arith) h.third) in
-    let d = digit_step (whole + 1 + 1 + 1) held left all bits c (digit_at held left 0 left (omega arith) h.last) in
+pub counts_word : (whole held filled all left : ℕ) (bits : List Bool) → Counts whole held filled all bits → left + 32 ≡ filled → HasNoFf (held / 2 ^ left % 2 ^ 32)
+    → Counts (whole + 4) held left all bits
+counts_word whole held filled all left bits s e none =
+    let h = word_no_ff (held / 2 ^ left) none in
+    let a = counts_byte whole held filled all (left + 24) bits s (omega arith) (digit_at held left 24 (left + 24) refl h.first) in
+    let b = counts_byte (whole + 1) held (left + 24) all (left + 16) bits a (omega arith) (digit_at held left 16 (left + 16) refl h.second) in
+    let c = counts_byte (whole + 1 + 1) held (left + 16) all (left + 8) bits b (omega arith) (digit_at held left 8 (left + 8) refl h.third) in
+    let d = counts_byte (whole + 1 + 1 + 1) held (left + 8) all left bits c refl (digit_at held left 0 left (omega arith) h.last) in
     let four : whole + 1 + 1 + 1 + 1 ≡ whole + 4 = omega arith in
-    subst (λ n. Counts n (held % 2 ^ left) left 8 all bits) four d
-
-pub counts_word_at : (whole held filled width all left low : ℕ) (bits : List Bool) → Counts whole held filled width all bits → width ≡ 8 → left + 32 ≡ filled → HasNoFf (held / 2 ^ left) → low ≡ held % 2 ^ left
-    → Counts (whole + 4) low left width all bits
-counts_word_at whole held filled width all left low bits s w e h l =
-    rw (w, l) (counts_word whole held filled all left bits (rw w at s) e h)
-
--- a number behind few bits fits 57
-pub number_small : (held filled width value : ℕ) → held < 2 ^ filled → value < 2 ^ width → filled + width ≤ 57 → held * 2 ^ width + value < 2 ^ 57
-number_small held filled width value h v r =
-    let b = join_below held filled value width h v in
-    let p : 2 ^ (filled + width) ≤ 2 ^ 57 = pow_mono r in
-    omega arith
-
-pub number_whole : (held filled width value : ℕ) → held < 2 ^ filled → value < 2 ^ width → filled + width ≤ 57 → held * 2 ^ width % 18446744073709551616 + value ≡ held * 2 ^ width + value
-number_whole held filled width value h v r =
-    let s = number_small held filled width value h v r in
-    let e : held * 2 ^ width % 18446744073709551616 ≡ held * 2 ^ width = omega arith in
-    ap (λ k. k + value) e
-
--- a word is below 2 to the 32
-pub word_below : (held filled left : ℕ) → held < 2 ^ filled → left + 32 ≡ filled → held / 2 ^ left < 2 ^ 32
-word_below held filled left h e =
-    let p : 0 < 2 ^ left = one-le-pow left 2 (omega arith) in
-    let q : 2 ^ filled ≡ 2 ^ left * 2 ^ 32 = ap (λ k. 2 ^ k) (sym e) ∙ pow-add 2 left 32 in
-    (div-lt_iff_lt-mul p).1 (omega arith)
+    subst (λ n. Counts n held left all bits) four d

@@ -25,12 +25,16 @@ pub record Spills (bytes : List ℕ) (held filled width : ℕ) (bits : List Bool
   pub stuffed : IsStuffed false bytes
   pub bits_are : useful false bytes ++ number filled held ≡ bits
 
--- a counter of so many whole bytes, with a byte begun behind them, has counted these bits, so many in all
-pub record Counts (whole part filled width all : ℕ) (bits : List Bool) : Type 0 where
+-- A counter of so many whole bytes, with bits behind them, has counted these bits, so many in all. The low
+-- `filled` bits of `held` are those behind the bytes, and in front of them the stuffed 0 where a byte FF is the last.
+pub record Counts (whole held filled all : ℕ) (bits : List Bool) : Type 0 where
   pub bytes : List ℕ
+  pub begun : ℕ
+  pub width : ℕ
   pub whole_are : length bytes ≡ whole
   pub all_are : length bits ≡ all
-  pub spills : Spills bytes part filled width bits
+  pub filled_is : filled ≡ begun + (8 - width)
+  pub spills : Spills bytes (held % 2 ^ filled) begun width bits
 
 -- none of the four bytes of a word is FF
 pub record HasNoFf (word : ℕ) : Type 0 where

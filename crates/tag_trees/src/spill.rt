@@ -23,6 +23,24 @@ pub fn high_byte(held: u64, left: u32) -> u8
     (held >> left) as u8
 }
 
+// The byte that ends in front of so many low bits.
+#[inline]
+pub fn byte_at(held: u64, left: u32) -> u8
+    requires left { left ≤ 57 }
+    ensures { result ≡ held / 2 ^ left % 2 ^ 8 }
+{
+    (held >> left & 0xff) as u8
+}
+
+// The four bytes that end in front of so many low bits.
+#[inline]
+pub fn word_at(held: u64, left: u32) -> u64
+    requires left { left ≤ 57 }
+    ensures { result ≡ held / 2 ^ left % 2 ^ 32 }
+{
+    held >> left & 0xffff_ffff
+}
+
 // The low bits.
 #[inline]
 pub fn low_bits(held: u64, left: u32) -> u64

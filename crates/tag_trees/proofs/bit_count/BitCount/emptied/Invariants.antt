@@ -1,16 +1,12 @@
-use Rattle.std.proofs.Common.{◌+◌, ◌*◌, ◌^◌, ◌<◌, ◌≤◌, List, Bool}
+use Rattle.std.proofs.Common.{◌≡◌, List, Bool}
 use Rattle.tag_trees.specs.BitState.{Counts}
 use Rattle.tag_trees.proofs.bit_count.BitCount.emptied.Given as goal
 
-abbrev pub invariant-loop-full : goal.invariant-loop-full
-invariant-loop-full l = record {
-  counts : (bits : List Bool) → Counts l.self.whole l.self.held l.self.filled l.self.width l.self.bits bits → Counts l.whole l.held l.filled l.full l.self.bits bits;
-  below : l.held < 2 ^ l.filled;
-  few : l.filled ≤ 57;
-  least : 7 ≤ l.full;
-  most : l.full ≤ 8;
-  whole_few : 7 * l.whole + l.filled ≤ l.self.bits;
+abbrev pub invariant-loop-count : goal.invariant-loop-count
+invariant-loop-count l = record {
+  counts : (bits : List Bool) → Counts l.fn.self.whole l.fn.self.held l.fn.self.filled l.fn.self.bits bits → Counts l.count.whole l.count.held l.count.filled l.count.bits bits;
+  same : l.count.bits ≡ l.fn.self.bits;
 }
 
-abbrev pub decreases-loop-full : goal.decreases-loop-full
-decreases-loop-full l = l.filled
+abbrev pub decreases-loop-count : goal.decreases-loop-count
+decreases-loop-count l = l.count.filled
