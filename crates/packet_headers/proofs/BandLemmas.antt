@@ -1,29 +1,24 @@
 -- What is kept of a band, entry by entry.
-use Rattle.std.proofs.Common.{◌≡◌, ℕ, suc, zero, ◌+◌, ◌*◌, ◌/◌, ◌%◌, ◌<◌, ◌≤◌, min, Bool, true, false, List, [], ◌∷◌, ◌++◌, length, map, take, get_or, refl, sym, ap, ◌∙◌, inl, inr, arith, leb, length-take, take_all}
-use Rattle.std.specs.Prelude.{◌||◌, if◌then◌else◌, slice_set, max}
-use Rattle.std.proofs.lemmas.List.{take_more, map_push, length-map, get_or-set_same, get_or-set_other}
-use Rattle.std.proofs.lemmas.Bool.{cases_eq, eq-eqb, ne_eqb, le-leb, lt-leb, leb-true, cases_lt}
+use Rattle.std.proofs.Common.{◌≡◌, ℕ, suc, zero, ◌+◌, ◌*◌, ◌/◌, ◌%◌, ◌<◌, ◌≤◌, min, Bool, true, false, List, [], ◌∷◌, ◌++◌, length, map, take, get_or, refl, sym, ap, ◌∙◌, inl, inr, arith, leb, ltb, length-take, take_all}
+use Rattle.std.specs.Prelude.{All, if◌then◌else◌, slice_set, max}
+use Rattle.std.proofs.lemmas.List.{take_more, map_push, length-map, get_or-map, get_or-set_same, get_or-set_other}
+use Rattle.std.proofs.lemmas.Bool.{cases_eq, eq-eqb, ne_eqb, le-leb, lt-leb, leb-true, lt-ltb, le-ltb, ltb-true, ltb-false, cases_lt}
 use Rattle.std.proofs.Math.Nat.{mod-lt, div-lt_iff_lt-mul, mul_comm}
 use Rattle.std.proofs.lemmas.Nat.{div-add-mod'}
 use Rattle.tag_trees.specs.TagTree.{middle_node, path_of, is_among, least, least_from, levels_above, largest}
 use Rattle.tag_trees.proofs.LeastLemmas.{least_push}
 use Rattle.packet_headers.specs.declared.entry.Entry.{Entry}
-use Rattle.packet_headers.specs.declared.above.Above.{Above}
 use Rattle.packet_headers.specs.declared.above.Marks.{Marks}
 use Rattle.packet_headers.specs.declared.packet.PacketBand.{PacketBand}
 use Rattle.packet_headers.specs.Words.{inclusion_writings, zero_plane_writings}
-use Rattle.packet_headers.specs.Written.{inclusion_value, zero_plane_value, written_trees}
-use Rattle.packet_headers.specs.WriterState.{Includes, kept_of, mark_of, AboveStands, MarksStand, TopFirst}
+use Rattle.packet_headers.specs.Written.{inclusion_value, zero_plane_value, written_trees, CanWriteEntry, CanWriteBand}
+use Rattle.packet_headers.specs.WriterState.{Includes, above_at, kept_of, mark_of, AboveStands, MarksStand, TopFirst}
 use Rattle.packet_headers.proofs.MarkLemmas.{among_quarter, among_top}
 
--- a node has the least numbers of these entries
-pub record NodeKept (width planes : ℕ) (entries : List Entry) (n : ℕ) (kept : Above) : Type 0 where
-  pub includes : Includes kept.included (least width (map inclusion_value entries) n)
-  pub least_is : kept.zero_planes ≡ least width (map (zero_plane_value planes) entries) n
-
-pub record KeptSoFar (width planes : ℕ) (entries : List Entry) (top : Above) (middle : List Above) : Type 0 where
-  pub top_kept : NodeKept width planes entries 20 top
-  pub middle_kept : (q : ℕ) → q < 4 → NodeKept width planes entries (16 + q) (kept_of middle q)
+-- the least zero planes of these entries are kept, of the node above the middle ones and of these
+pub record LeastSoFar (width planes : ℕ) (entries : List Entry) (top : ℕ) (middle : List ℕ) : Type 0 where
+  pub top_least : top ≡ least width (map (zero_plane_value planes) entries) 20
+  pub middle_least : (q : ℕ) → q < 4 → get_or middle q 0 ≡ least width (map (zero_plane_value planes) entries) (16 + q)
 
 -- the least number with one entry more
 least_one : (width : ℕ) (f : Entry → ℕ) (entries : List Entry) (entry : Entry) (x y n : ℕ) → x ≡ length entries % width → y ≡ length entries / width
@@ -35,65 +30,67 @@ least_one width f entries entry x y n ex ey =
     ∙ least_push width 0 (map f entries) (f entry) n
     ∙ rw (l, ex, ey) refl
 
-kept_same : (a : Above) (q : ℕ) → q < 4 → kept_of (a ∷ a ∷ a ∷ a ∷ []) q ≡ a
-kept_same a zero h = refl
-kept_same a (suc zero) h = refl
-kept_same a (suc (suc zero)) h = refl
-kept_same a (suc (suc (suc zero))) h = refl
-kept_same a (suc (suc (suc (suc q)))) h = absurd (omega arith)
+four_same : (n q : ℕ) → q < 4 → get_or (n ∷ n ∷ n ∷ n ∷ []) q 0 ≡ n
+four_same n zero h = refl
+four_same n (suc zero) h = refl
+four_same n (suc (suc zero)) h = refl
+four_same n (suc (suc (suc zero))) h = refl
+four_same n (suc (suc (suc (suc q)))) h = absurd (omega arith)
 
-node_none : (width planes n : ℕ) → NodeKept width planes [] n (record { included = false; zero_planes = 255 })
+pub least_none : (width planes : ℕ) → LeastSoFar width planes [] 255 (255 ∷ 255 ∷ 255 ∷ 255 ∷ [])
 unfolding least_from
-node_none width planes n = record { includes = omega arith; least_is = refl }
+least_none width planes = record { top_least = refl; middle_least = λ q h. four_same 255 q h }
 
-pub kept_none : (width planes : ℕ) (none : Above) → none ≡ record { included = false; zero_planes = 255 } → KeptSoFar width planes [] none (none ∷ none ∷ none ∷ none ∷ [])
-kept_none width planes none e = record {
-  top_kept = rw e (node_none width planes 20);
-  middle_kept = λ q h. rw (kept_same none q h, e) (node_none width planes (16 + q));
-}
-
-includes_one : (a b : Bool) (v : ℕ) (entry : Entry) → entry.included ≡ b → Includes a v → Includes (a || b) (min (inclusion_value entry) v)
-includes_one true true v entry e h = omega arith
-includes_one true false v entry e h = omega arith
-includes_one false true v entry e h = let i : inclusion_value entry ≡ 0 = rw e refl in rw i (omega arith)
-includes_one false false v entry e h = let i : inclusion_value entry ≡ 1 = rw e refl in rw i (omega arith)
-
-module _ (width planes : ℕ) (entries : List Entry) (entry : Entry) (x y n : ℕ) (ex : x ≡ length entries % width) (ey : y ≡ length entries / width) where
-  node_more : (kept kept' : Above) → NodeKept width planes entries n kept → is_among (path_of 2 x y) n ≡ true
-      → kept'.included ≡ (kept.included || entry.included) → kept'.zero_planes ≡ min (zero_plane_value planes entry) kept.zero_planes
-      → NodeKept width planes (entries ++ entry ∷ []) n kept'
-  node_more kept kept' k a i z = record {
-    includes = rw (i, least_one width inclusion_value entries entry x y n ex ey, a)
-        (includes_one kept.included entry.included (least width (map inclusion_value entries) n) entry refl k.includes);
-    least_is = rw (z, least_one width (zero_plane_value planes) entries entry x y n ex ey, a) (ap (λ l. min (zero_plane_value planes entry) l) k.least_is);
-  }
-
-  node_same : (kept : Above) → NodeKept width planes entries n kept → is_among (path_of 2 x y) n ≡ false → NodeKept width planes (entries ++ entry ∷ []) n kept
-  node_same kept k a = record {
-    includes = rw (least_one width inclusion_value entries entry x y n ex ey, a) k.includes;
-    least_is = rw (least_one width (zero_plane_value planes) entries entry x y n ex ey, a) k.least_is;
-  }
-
-pub kept_more : (width planes : ℕ) (entries : List Entry) (entry : Entry) (x y p : ℕ) (top top' : Above) (middle : List Above) (own : Above)
+pub least_more : (width planes : ℕ) (entries : List Entry) (entry : Entry) (x y p : ℕ) (top top' : ℕ) (middle : List ℕ) (own : ℕ)
     → x ≡ length entries % width → y ≡ length entries / width → x ≤ 3 → y ≤ 3 → p < 4 → length middle ≡ 4 → middle_node x y ≡ 16 + p
-    → KeptSoFar width planes entries top middle
-    → top'.included ≡ (top.included || entry.included) → top'.zero_planes ≡ min (zero_plane_value planes entry) top.zero_planes
-    → own.included ≡ ((kept_of middle p).included || entry.included) → own.zero_planes ≡ min (zero_plane_value planes entry) (kept_of middle p).zero_planes
-    → KeptSoFar width planes (entries ++ entry ∷ []) top' (slice_set middle p own)
-kept_more width planes entries entry x y p top top' middle own ex ey hx hy hp l m k ti tz oi oz = record {
-  top_kept = node_more width planes entries entry x y 20 ex ey top top' k.top_kept (among_top 0 x y) ti tz;
-  middle_kept = λ q hq. elim (cases_eq p q) [
+    → LeastSoFar width planes entries top middle → top' ≡ min (zero_plane_value planes entry) top → own ≡ min (zero_plane_value planes entry) (get_or middle p 0)
+    → LeastSoFar width planes (entries ++ entry ∷ []) top' (slice_set middle p own)
+least_more width planes entries entry x y p top top' middle own ex ey hx hy hp l m k t o = record {
+  top_least = rw (t, k.top_least, least_one width (zero_plane_value planes) entries entry x y 20 ex ey, among_top 0 x y) refl;
+  middle_least = λ q hq. elim (cases_eq p q) [
     | inl e ↦
-        let own_is : kept_of (slice_set middle p own) q ≡ own = sym (ap (λ r. kept_of (slice_set middle p own) r) e) ∙ get_or-set_same middle p own _ (omega arith) in
+        let own_is : get_or (slice_set middle p own) q 0 ≡ own = sym (ap (λ r. get_or (slice_set middle p own) r 0) e) ∙ get_or-set_same middle p own _ (omega arith) in
         let among = among_quarter 1 x y p q hx hy hq m ∙ eq-eqb p q e in
-        rw own_is (node_more width planes entries entry x y (16 + q) ex ey (kept_of middle q) own (k.middle_kept q hq) among
-        (oi ∙ ap (λ r. (kept_of middle r).included || entry.included) e) (oz ∙ ap (λ r. min (zero_plane_value planes entry) (kept_of middle r).zero_planes) e))
+        rw (own_is, least_one width (zero_plane_value planes) entries entry x y (16 + q) ex ey, among)
+        (o ∙ ap (λ r. min (zero_plane_value planes entry) (get_or middle r 0)) e ∙ ap (λ r. min (zero_plane_value planes entry) r) (k.middle_least q hq))
     | inr ne ↦
-        let other : kept_of (slice_set middle p own) q ≡ kept_of middle q = get_or-set_other middle p q own _ (λ k. ne (sym k)) in
+        let other : get_or (slice_set middle p own) q 0 ≡ get_or middle q 0 = get_or-set_other middle p q own _ (λ k. ne (sym k)) in
         let among = among_quarter 1 x y p q hx hy hq m ∙ ne_eqb p q ne in
-        rw other (node_same width planes entries entry x y (16 + q) ex ey (kept_of middle q) (k.middle_kept q hq) among)
+        rw (other, least_one width (zero_plane_value planes) entries entry x y (16 + q) ex ey, among) (k.middle_least q hq)
   ];
 }
+
+-- a node includes a block where its least zero planes are fewer than the planes
+fewer_min : (planes rest v : ℕ) (b : Bool) → ltb rest planes ≡ b → Includes b v → Includes (ltb (min planes rest) planes) (min 1 v)
+fewer_min planes rest v true e h =
+    let r : rest < planes = ltb-true rest planes e in
+    let k : ltb (min planes rest) planes ≡ true = lt-ltb (min planes rest) planes (omega arith) in
+    rw k (omega arith)
+fewer_min planes rest v false e h =
+    let r : planes ≤ rest = ltb-false rest planes e in
+    let k : ltb (min planes rest) planes ≡ false = le-ltb (min planes rest) planes (omega arith) in
+    rw k (omega arith)
+
+includes_entry : (planes rest v : ℕ) (entry : Entry) (b : Bool) → entry.included ≡ b → CanWriteEntry planes entry → Includes (ltb rest planes) v
+    → Includes (ltb (min (zero_plane_value planes entry) rest) planes) (min (inclusion_value entry) v)
+includes_entry planes rest v entry true e c h =
+    let z : entry.zero_planes < planes = (c e).fewer in
+    let k : ltb (min entry.zero_planes rest) planes ≡ true = lt-ltb (min entry.zero_planes rest) planes (omega arith) in
+    rw (e, k) (omega arith)
+includes_entry planes rest v entry false e c h = rw e (fewer_min planes rest v (ltb rest planes) refl h)
+
+includes_if : (b : Bool) (planes one rest v w : ℕ) → Includes (ltb one planes) v → Includes (ltb rest planes) w → Includes (ltb (if b then one else rest) planes) (if b then v else w)
+includes_if true planes one rest v w h k = h
+includes_if false planes one rest v w h k = k
+
+includes_least : (width planes place : ℕ) (entries : List Entry) (n : ℕ) → planes ≤ 20 → All (CanWriteEntry planes) entries
+    → Includes (ltb (least_from width place (map (zero_plane_value planes) entries) n) planes) (least_from width place (map inclusion_value entries) n)
+unfolding least_from
+includes_least width planes place [] n h a = let k : ltb 255 planes ≡ false = le-ltb 255 planes (omega arith) in rw k (omega arith)
+includes_least width planes place (entry ∷ entries) n h a =
+    let rest = includes_least width planes (place + 1) entries n h (λ i d l. a (suc i) d (omega arith)) in
+    includes_if (is_among (path_of 2 (place % width) (place / width)) n) planes _ _ _ _
+    (includes_entry planes _ _ entry entry.included refl (a 0 entry (omega arith)) rest) rest
 
 some_width : (w h p : ℕ) → p < w * h → 0 < w
 some_width zero h p l = absurd (omega arith)
@@ -146,38 +143,60 @@ level_two w h k =
     let e : leb (max w h) 1 ≡ false = lt-leb (max w h) 1 (omega arith) in
     let f : leb (max w h) 2 ≡ false = lt-leb (max w h) 2 k in rw (e, f) refl
 
-pub above_zero : (band : PacketBand) → levels_above band.width band.height ≡ 0
-    → AboveStands (written_trees band) (record { included = true; zero_planes = 0 })
-    (record { included = true; zero_planes = 0 } ∷ record { included = true; zero_planes = 0 } ∷ record { included = true; zero_planes = 0 } ∷ record { included = true; zero_planes = 0 } ∷ [])
-above_zero band e = record {
-  top_includes = rw e refl;
-  top_least = rw e refl;
-  middle_includes = λ q h. rw (e, kept_same (record { included = true; zero_planes = 0 }) q h) refl;
-  middle_least = λ q h. rw (e, kept_same (record { included = true; zero_planes = 0 }) q h) refl;
-}
+kept_at : (planes : ℕ) (middle : List ℕ) (q : ℕ) → q < length middle → kept_of (map (above_at planes) middle) q ≡ above_at planes (get_or middle q 0)
+kept_at planes middle q h = get_or-map (above_at planes) middle q 0 _ h
 
-pub above_one : (band : PacketBand) (top : Above) (middle : List Above) → levels_above band.width band.height ≡ 1 → KeptSoFar band.width band.planes band.entries.items top middle
-    → AboveStands (written_trees band) (record { included = true; zero_planes = 0 }) middle
-above_one band top middle e k = record {
-  top_includes = rw e refl;
-  top_least = rw e refl;
-  middle_includes = λ q h. rw e (k.middle_kept q h).includes;
-  middle_least = λ q h. rw e (k.middle_kept q h).least_is;
-}
+some_planes : (planes : ℕ) → 1 ≤ planes → ltb 0 planes ≡ true
+some_planes planes h = lt-ltb 0 planes (omega arith)
 
-pub above_two : (band : PacketBand) (top : Above) (middle : List Above) → levels_above band.width band.height ≡ 2 → KeptSoFar band.width band.planes band.entries.items top middle
-    → AboveStands (written_trees band) top middle
-above_two band top middle e k = record {
-  top_includes = rw e k.top_kept.includes;
-  top_least = rw e k.top_kept.least_is;
-  middle_includes = λ q h. rw e (k.middle_kept q h).includes;
-  middle_least = λ q h. rw e (k.middle_kept q h).least_is;
-}
+pub above_zero : (band : PacketBand) → CanWriteBand band → levels_above band.width band.height ≡ 0
+    → AboveStands (written_trees band) (above_at band.planes 0) (map (above_at band.planes) (0 ∷ 0 ∷ 0 ∷ 0 ∷ []))
+above_zero band can e =
+    let s = some_planes band.planes can.some_planes in
+    record {
+      top_includes = rw e s;
+      top_least = rw e refl;
+      middle_includes = λ q h. rw (e, kept_at band.planes (0 ∷ 0 ∷ 0 ∷ 0 ∷ []) q h, four_same 0 q h) s;
+      middle_least = λ q h. rw (e, kept_at band.planes (0 ∷ 0 ∷ 0 ∷ 0 ∷ []) q h) (four_same 0 q h);
+    }
+
+module _ (band : PacketBand) (can : CanWriteBand band) (top : ℕ) (middle : List ℕ) (four : length middle ≡ 4) (k : LeastSoFar band.width band.planes band.entries.items top middle) where
+  node_includes : (m n : ℕ) → m ≡ least band.width (map (zero_plane_value band.planes) band.entries.items) n
+      → Includes (ltb m band.planes) (least band.width (map inclusion_value band.entries.items) n)
+  node_includes m n e = rw e (includes_least band.width band.planes 0 band.entries.items n can.planes can.entries)
+
+  middle_includes : (q : ℕ) → q < 4 → Includes (kept_of (map (above_at band.planes) middle) q).included (least band.width (map inclusion_value band.entries.items) (16 + q))
+  middle_includes q h = rw (kept_at band.planes middle q (omega arith)) (node_includes (get_or middle q 0) (16 + q) (k.middle_least q h))
+
+  middle_least : (q : ℕ) → q < 4 → (kept_of (map (above_at band.planes) middle) q).zero_planes ≡ least band.width (map (zero_plane_value band.planes) band.entries.items) (16 + q)
+  middle_least q h = rw (kept_at band.planes middle q (omega arith)) (k.middle_least q h)
+
+  pub above_one : levels_above band.width band.height ≡ 1 → AboveStands (written_trees band) (above_at band.planes 0) (map (above_at band.planes) middle)
+  above_one e =
+      let s = some_planes band.planes can.some_planes in
+      record {
+        top_includes = rw e s;
+        top_least = rw e refl;
+        middle_includes = λ q h. rw e (middle_includes q h);
+        middle_least = λ q h. rw e (middle_least q h);
+      }
+
+  pub above_two : levels_above band.width band.height ≡ 2 → AboveStands (written_trees band) (above_at band.planes top) (map (above_at band.planes) middle)
+  above_two e = record {
+    top_includes = rw e (node_includes top 20 k.top_least);
+    top_least = rw e k.top_least;
+    middle_includes = λ q h. rw e (middle_includes q h);
+    middle_least = λ q h. rw e (middle_least q h);
+  }
 
 -- at the end all entries are taken
-pub kept_all : (band : PacketBand) (items : List Entry) (n : ℕ) (top : Above) (middle : List Above) → items ≡ band.entries.items → length items ≤ n
-    → KeptSoFar band.width band.planes (take n band.entries.items) top middle → KeptSoFar band.width band.planes band.entries.items top middle
-kept_all band items n top middle e h k = let l = ap length e in rw (take_all n band.entries.items (omega arith)) at k
+pub least_all : (band : PacketBand) (items : List Entry) (n : ℕ) (top : ℕ) (middle : List ℕ) → items ≡ band.entries.items → length items ≤ n
+    → LeastSoFar band.width band.planes (take n band.entries.items) top middle → LeastSoFar band.width band.planes band.entries.items top middle
+least_all band items n top middle e h k = let l = ap length e in rw (take_all n band.entries.items (omega arith)) at k
+
+-- the node that is kept for a quarter
+pub kept_is : (planes : ℕ) (middle : List ℕ) (q : ℕ) → length middle ≡ 4 → q < 4 → kept_of (map (above_at planes) middle) q ≡ above_at planes (get_or middle q 0)
+kept_is planes middle q l h = kept_at planes middle q (omega arith)
 
 -- the marks at first
 pub marks_zero : (band : PacketBand) (marks : Marks) → levels_above band.width band.height ≡ 0 → marks.top ≡ true → ((q : ℕ) → q < 4 → mark_of marks q ≡ true)

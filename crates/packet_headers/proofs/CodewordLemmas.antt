@@ -1,7 +1,7 @@
 -- The codewords of a block's numbers, as numbers.
-use Rattle.std.proofs.Common.{◌≡◌, ℕ, suc, zero, ◌+◌, ◌-◌, ◌*◌, ◌/◌, ◌%◌, ◌^◌, ◌<◌, ◌≤◌, true, false, [], ◌∷◌, ◌++◌, refl, ap, ◌∙◌, arith, append_assoc, add-one}
+use Rattle.std.proofs.Common.{◌≡◌, ℕ, suc, zero, ◌+◌, ◌-◌, ◌*◌, ◌/◌, ◌%◌, ◌^◌, ◌<◌, ◌≤◌, true, false, [], ◌∷◌, ◌++◌, refl, sym, ap, subst, ◌∙◌, inl, inr, arith, append_assoc, add-one}
 use Rattle.std.specs.Prelude.{◌==◌, replicate}
-use Rattle.std.proofs.lemmas.Bool.{le-leb, lt-leb}
+use Rattle.std.proofs.lemmas.Bool.{cases_lt}
 use Rattle.std.proofs.lemmas.List.{replicate_more}
 use Rattle.std.proofs.Math.Nat.{pow-suc, one-le-pow, mul-le-mul_right}
 use Rattle.std.proofs.lemmas.Nat.{pow-add}
@@ -12,45 +12,8 @@ use Rattle.tag_trees.specs.Bits.{number}
 use Rattle.tag_trees.proofs.SpillLemmas.{number-join, join_below, one_fits}
 use Rattle.packet_headers.specs.Codewords.{pass_bits, length_bits, length_width, least_raise}
 
-pub passes_one : (n : ℕ) → n ≤ 1 → number 1 0 ≡ pass_bits n
-unfolding number pass_bits
-passes_one n h = rw (le-leb n 1 h) refl
-
-pub passes_two : (n : ℕ) → 1 < n → n ≤ 2 → number 2 2 ≡ pass_bits n
-unfolding number pass_bits
-passes_two n g h = rw (lt-leb n 1 g, le-leb n 2 h) refl
-
-two_ones : number 2 3 ≡ replicate 2 true
-unfolding number
-two_ones = refl
-
-four_ones : number 4 15 ≡ replicate 4 true
-unfolding number
-four_ones = refl
-
-nine_ones : number 9 511 ≡ replicate 9 true
-unfolding number
-nine_ones = refl
-
-pub passes_few : (n : ℕ) → 2 < n → n ≤ 5 → number 4 (12 + (n - 3)) ≡ pass_bits n
-unfolding pass_bits
-passes_few n g h =
-    let e = number-join 2 2 3 (n - 3) (omega arith) in
-    rw (lt-leb n 1 (omega arith), lt-leb n 2 g, le-leb n 5 h) (e ∙ ap (λ r. r ++ number 2 (n - 3)) two_ones)
-
-pub passes_more : (n : ℕ) → 5 < n → n ≤ 36 → number 9 (480 + (n - 6)) ≡ pass_bits n
-unfolding pass_bits
-passes_more n g h =
-    let e = number-join 4 5 15 (n - 6) (omega arith) in
-    rw (lt-leb n 1 (omega arith), lt-leb n 2 (omega arith), lt-leb n 5 g, le-leb n 36 h) (e ∙ ap (λ r. r ++ number 5 (n - 6)) four_ones)
-
-pub passes_many : (n : ℕ) → 36 < n → n ≤ 164 → number 16 (65408 + (n - 37)) ≡ pass_bits n
-unfolding pass_bits
-passes_many n g h =
-    let e = number-join 9 7 511 (n - 37) (omega arith) in
-    rw (lt-leb n 1 (omega arith), lt-leb n 2 (omega arith), lt-leb n 5 (omega arith), lt-leb n 36 g) (e ∙ ap (λ r. r ++ number 7 (n - 37)) nine_ones)
-
-number-ones : (k : ℕ) → number k (2 ^ k - 1) ≡ replicate k true
+-- ones
+pub number-ones : (k : ℕ) → number k (2 ^ k - 1) ≡ replicate k true
 unfolding number
 number-ones zero = refl
 number-ones (suc k) =
@@ -125,47 +88,115 @@ length_fits passes len least raise width w =
     let m : (2 * 2 ^ raise - 2 + 1) * 2 ^ width ≤ 2 ^ (raise + 1) * 2 ^ width = mul-le-mul_right (2 ^ width) (omega arith) in
     omega arith
 
+-- the codeword of the passes, and that of the length behind it, by two shifts
+double_shift : (v x y len : ℕ) → ((v + 1) * (x + 1) - 1) * (y * 2) + len ≡ v * ((x + 1) * 2 * y) + ((2 * (x + 1) - 2) * y + len)
+double_shift v x y len =
+    let a : (v + 1) * (x + 1) - 1 ≡ v * (x + 1) + x = omega arith in
+    let b : 2 * (x + 1) - 2 ≡ 2 * x = omega arith in
+    rw (a, b) (grind arith)
+
+numbers_value : (v r w len : ℕ) → ((v + 1) * 2 ^ r - 1) * 2 ^ (w + 1) + len ≡ v * 2 ^ (r + 1 + w) + ((2 * 2 ^ r - 2) * 2 ^ w + len)
+numbers_value v r w len =
+    let one : 1 ≤ 2 ^ r = one-le-pow r 2 (omega arith) in
+    let x : 2 ^ r ≡ 2 ^ r - 1 + 1 = omega arith in
+    let p : 2 ^ (w + 1) ≡ 2 ^ w * 2 = rw add-one (pow-suc 2 w) in
+    let q : 2 ^ (r + 1 + w) ≡ 2 ^ r * 2 * 2 ^ w = pow-add 2 (r + 1) w ∙ ap (λ k. k * 2 ^ w) (rw add-one (pow-suc 2 r)) in
+    rw (p, q) (subst (λ k. ((v + 1) * k - 1) * (2 ^ w * 2) + len ≡ v * (k * 2 * 2 ^ w) + ((2 * k - 2) * 2 ^ w + len)) (sym x) (double_shift v (2 ^ r - 1) (2 ^ w) len))
+
+-- these are a codeword of the passes, and a length's
+pub record NumbersParts (passes len pass_width v least raise width : ℕ) : Type 0 where
+  pub bits : number pass_width v ≡ pass_bits passes
+  pub v_fits : v < 2 ^ pass_width
+  pub v_few : pass_width ≤ 16
+  pub v_short : passes ≤ 36 → pass_width ≤ 9
+  pub widths : LengthWidths passes len least raise width
+
+pub numbers_few : (passes len pw v least raise width : ℕ) → NumbersParts passes len pw v least raise width → pw + raise + 1 + width ≤ 45
+numbers_few passes len pw v least raise width n =
+    let a = n.widths.few in
+    let b = n.widths.raise_is in
+    elim (cases_lt 36 passes) [
+      | inl many ↦ let k = n.widths.short (omega arith) in let l = n.v_few in omega arith
+      | inr few ↦ let k = n.v_short few in omega arith
+    ]
+
+numbers_fits_in : (passes len pw v least raise width : ℕ) → NumbersParts passes len pw v least raise width
+    → v * 2 ^ (raise + 1 + width) + ((2 * 2 ^ raise - 2) * 2 ^ width + len) < 2 ^ (pw + (raise + 1 + width))
+numbers_fits_in passes len pw v least raise width n =
+    join_below v pw ((2 * 2 ^ raise - 2) * 2 ^ width + len) (raise + 1 + width) n.v_fits (length_fits passes len least raise width n.widths)
+
+numbers_below : (passes len pw v least raise width : ℕ) → NumbersParts passes len pw v least raise width → ((v + 1) * 2 ^ raise - 1) * 2 ^ (width + 1) + len < 2 ^ 45
+numbers_below passes len pw v least raise width n =
+    let f = numbers_fits_in passes len pw v least raise width n in
+    let few = numbers_few passes len pw v least raise width n in
+    let most : pw + (raise + 1 + width) ≤ 45 = omega arith in
+    let p : 2 ^ (pw + (raise + 1 + width)) ≤ 2 ^ 45 = pow_mono most in
+    rw (numbers_value v raise width len) (omega arith)
+
 -- nothing of them is lost in 64 bits
-pub raise_small : (passes len least raise width : ℕ) → LengthWidths passes len least raise width → 2 * 2 ^ raise % 18446744073709551616 ≡ 2 * 2 ^ raise
-raise_small passes len least raise width w =
-    let p : 2 ^ raise ≤ 2 ^ 15 = pow_mono w.raise_few in
+raised_small : (passes len pw v least raise width : ℕ) → NumbersParts passes len pw v least raise width → (v + 1) * 2 ^ raise ≤ 2 ^ 31
+raised_small passes len pw v least raise width n =
+    let h = n.v_fits in
+    let l = n.v_few in
+    let p : 2 ^ pw ≤ 2 ^ 16 = pow_mono n.v_few in
+    let q : 2 ^ raise ≤ 2 ^ 15 = pow_mono n.widths.raise_few in
+    let m : (v + 1) * 2 ^ raise ≤ 2 ^ 16 * 2 ^ raise = mul-le-mul_right (2 ^ raise) (omega arith) in
     omega arith
 
-pub raise_some : (passes len least raise width : ℕ) → LengthWidths passes len least raise width → 2 ≤ 2 * 2 ^ raise % 18446744073709551616
-raise_some passes len least raise width w =
+pub raised_whole : (passes len pw v least raise width : ℕ) → NumbersParts passes len pw v least raise width → (v + 1) * 2 ^ raise % 18446744073709551616 ≡ (v + 1) * 2 ^ raise
+raised_whole passes len pw v least raise width n = let s = raised_small passes len pw v least raise width n in omega arith
+
+pub raised_some : (passes len pw v least raise width : ℕ) → NumbersParts passes len pw v least raise width → 1 ≤ (v + 1) * 2 ^ raise
+raised_some passes len pw v least raise width n =
     let one : 1 ≤ 2 ^ raise = one-le-pow raise 2 (omega arith) in
-    rw (raise_small passes len least raise width w) (omega arith)
-
-pub length_small : (passes len least raise width : ℕ) → LengthWidths passes len least raise width → (2 * 2 ^ raise - 2) * 2 ^ width + len < 2 ^ 34
-length_small passes len least raise width w =
-    let f = length_fits passes len least raise width w in
-    let p : 2 ^ (raise + 1 + width) ≤ 2 ^ 34 = pow_mono w.few in
+    let m : 1 * 2 ^ raise ≤ (v + 1) * 2 ^ raise = mul-le-mul_right (2 ^ raise) (omega arith) in
     omega arith
 
-pub length_whole : (passes len least raise width n : ℕ) → LengthWidths passes len least raise width → n ≡ len
-    → (2 * 2 ^ raise % 18446744073709551616 - 2) * 2 ^ width % 18446744073709551616 + n ≡ (2 * 2 ^ raise - 2) * 2 ^ width + len
-length_whole passes len least raise width n w e =
-    let s = length_small passes len least raise width w in
-    rw (raise_small passes len least raise width w, e) (
-    let k : (2 * 2 ^ raise - 2) * 2 ^ width % 18446744073709551616 ≡ (2 * 2 ^ raise - 2) * 2 ^ width = omega arith in
-    ap (λ m. m + len) k)
+pub numbers_whole : (passes len pw v least raise width : ℕ) → NumbersParts passes len pw v least raise width
+    → ((v + 1) * 2 ^ raise - 1) * 2 ^ (width + 1) % 18446744073709551616 + len ≡ ((v + 1) * 2 ^ raise - 1) * 2 ^ (width + 1) + len
+numbers_whole passes len pw v least raise width n =
+    let b = numbers_below passes len pw v least raise width n in
+    let e : ((v + 1) * 2 ^ raise - 1) * 2 ^ (width + 1) % 18446744073709551616 ≡ ((v + 1) * 2 ^ raise - 1) * 2 ^ (width + 1) = omega arith in
+    ap (λ k. k + len) e
+
+pub numbers_small : (passes len pw v least raise width : ℕ) → NumbersParts passes len pw v least raise width → ((v + 1) * 2 ^ raise - 1) * 2 ^ (width + 1) + len < 2 ^ 45
+numbers_small passes len pw v least raise width n = numbers_below passes len pw v least raise width n
+
+pub numbers_fits : (passes len pw v least raise width : ℕ) → NumbersParts passes len pw v least raise width
+    → ((v + 1) * 2 ^ raise - 1) * 2 ^ (width + 1) + len < 2 ^ (pw + raise + 1 + width)
+numbers_fits passes len pw v least raise width n =
+    let e : pw + (raise + 1 + width) ≡ pw + raise + 1 + width = omega arith in
+    rw (numbers_value v raise width len) (rw e at (numbers_fits_in passes len pw v least raise width n))
+
+pub numbers_bits : (passes len pw v least raise width : ℕ) → NumbersParts passes len pw v least raise width
+    → number (pw + raise + 1 + width) (((v + 1) * 2 ^ raise - 1) * 2 ^ (width + 1) + len) ≡ pass_bits passes ++ length_bits passes (least_raise passes len) len
+numbers_bits passes len pw v least raise width n =
+    let e : pw + raise + 1 + width ≡ pw + (raise + 1 + width) = omega arith in
+    let l = (2 * 2 ^ raise - 2) * 2 ^ width + len in
+    ap (λ k. number (pw + raise + 1 + width) k) (numbers_value v raise width len)
+    ∙ ap (λ k. number k (v * 2 ^ (raise + 1 + width) + ((2 * 2 ^ raise - 2) * 2 ^ width + len))) e
+    ∙ number-join pw (raise + 1 + width) v ((2 * 2 ^ raise - 2) * 2 ^ width + len) (length_fits passes len least raise width n.widths)
+    ∙ ap (λ r. r ++ number (raise + 1 + width) ((2 * 2 ^ raise - 2) * 2 ^ width + len)) n.bits
+    ∙ ap (λ r. pass_bits passes ++ r) (length_is passes len least raise width n.widths)
 
 -- two codewords, one behind the other
-pub joined_whole : (width value last n : ℕ) → width ≤ 16 → value < 2 ^ width → last ≤ 34 → n < 2 ^ last
+pub joined_whole : (width value last n : ℕ) → width + last ≤ 50 → value < 2 ^ width → n < 2 ^ last
     → value * 2 ^ last % 18446744073709551616 + n ≡ value * 2 ^ last + n
-joined_whole width value last n w h l k =
-    let p : 2 ^ width ≤ 2 ^ 16 = pow_mono w in
-    let q : 2 ^ last ≤ 2 ^ 34 = pow_mono l in
-    let m : value * 2 ^ last ≤ 2 ^ 16 * 2 ^ last = mul-le-mul_right (2 ^ last) (omega arith) in
+joined_whole width value last n r h k =
+    let b = join_below value width n last h k in
+    let p : 2 ^ (width + last) ≤ 2 ^ 50 = pow_mono r in
     let s : value * 2 ^ last % 18446744073709551616 ≡ value * 2 ^ last = omega arith in
     ap (λ r. r + n) s
 
-pub joined_small : (width value last n : ℕ) → width ≤ 16 → value < 2 ^ width → last ≤ 34 → n < 2 ^ last → value * 2 ^ last + n < 2 ^ 51
-joined_small width value last n w h l k =
-    let p : 2 ^ width ≤ 2 ^ 16 = pow_mono w in
-    let q : 2 ^ last ≤ 2 ^ 34 = pow_mono l in
-    let m : value * 2 ^ last ≤ 2 ^ 16 * 2 ^ last = mul-le-mul_right (2 ^ last) (omega arith) in
+pub joined_small : (width value last n : ℕ) → width + last ≤ 50 → value < 2 ^ width → n < 2 ^ last → value * 2 ^ last + n < 2 ^ 50
+joined_small width value last n r h k =
+    let b = join_below value width n last h k in
+    let p : 2 ^ (width + last) ≤ 2 ^ 50 = pow_mono r in
     omega arith
+
+-- ones in 64 bits
+pub ones_whole : (k : ℕ) → k ≤ 3 → 1 * 2 ^ k % 18446744073709551616 ≡ 2 ^ k
+ones_whole k h = let p : 2 ^ k ≤ 2 ^ 3 = pow_mono h in omega arith
 
 -- zeros and a 1 behind bits
 pub zeros_whole : (width value k n : ℕ) → value < 2 ^ width → width + (k + 1) ≤ 50 → n ≡ k

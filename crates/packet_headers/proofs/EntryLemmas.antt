@@ -6,13 +6,14 @@ use Rattle.tag_trees.proofs.LeastLemmas.{least_rises}
 use Rattle.tag_trees.proofs.ReaderLemmas.{least_leaf}
 use Rattle.packet_headers.specs.declared.entry.Entry.{Entry}
 use Rattle.packet_headers.specs.declared.above.Above.{Above}
+use Rattle.packet_headers.specs.declared.above.Marks.{Marks}
 use Rattle.packet_headers.specs.declared.packet.PacketBand.{PacketBand}
 use Rattle.packet_headers.specs.Written.{inclusion_value, zero_plane_value, written_block, written_trees, CanWriteBand, CanWriteEntry, CanWriteIncluded}
-use Rattle.packet_headers.specs.WriterState.{Includes, kept_of, AboveStands, visits, zero_visits}
+use Rattle.packet_headers.specs.WriterState.{Includes, above_at, kept_of, entry_list, AboveStands, visits, zero_visits}
 use Rattle.packet_headers.proofs.BlockLemmas.{AtPlace, written_place}
 use Rattle.packet_headers.proofs.MarkLemmas.{fresh_inclusion, fresh_zero_planes}
 use Rattle.packet_headers.proofs.AboveLemmas.{Rises, rises}
-use Rattle.packet_headers.proofs.BandLemmas.{Inside, inside, taken_length}
+use Rattle.packet_headers.proofs.BandLemmas.{Inside, inside, taken_length, kept_is}
 
 -- the number of a leaf is its entry's
 pub leaf_value : (band : PacketBand) (f : Entry → ℕ) (place x y : ℕ) (entry d : Entry) → CanWriteBand band → place < length band.entries.items → entry ≡ get_or band.entries.items place d
@@ -84,3 +85,18 @@ entry_at band items place x y p d top middle can e h ex ey m hp a =
       fresh = fresh_inclusion (levels_above band.width band.height) band.width 0 x y (map written_block (take place band.entries.items)) can.width i.column (omega arith) (omega arith);
       zero_fresh = fresh_zero_planes (levels_above band.width band.height) band.width 0 x y (map written_block (take place band.entries.items)) can.width i.column (omega arith) (omega arith);
     }
+
+-- the same where these are the nodes that are kept
+pub entry_kept : (band : PacketBand) (items : List Entry) (place p : ℕ) (d : Entry) (top : ℕ) (middle : List ℕ) (t m : Above) → CanWriteBand band → items ≡ band.entries.items → place < length items
+    → middle_node (place % band.width) (place / band.width) ≡ 16 + p → p < 4 → AboveStands (written_trees band) (above_at band.planes top) (map (above_at band.planes) middle) → length middle ≡ 4
+    → t ≡ above_at band.planes top → m ≡ above_at band.planes (get_or middle p 0) → EntryAt band place (place % band.width) (place / band.width) p (get_or items place d) t m
+entry_kept band items place p d top middle t m can e h n hp a four et em =
+    let own = entry_at band items place (place % band.width) (place / band.width) p d (above_at band.planes top) (map (above_at band.planes) middle) can e h refl refl n hp a in
+    let kept = em ∙ sym (kept_is band.planes middle p four hp) in
+    subst (λ k. EntryAt band place (place % band.width) (place / band.width) p (get_or items place d) k m) (sym et)
+    (subst (λ k. EntryAt band place (place % band.width) (place / band.width) p (get_or items place d) (above_at band.planes top) k) (sym kept) own)
+
+pub list_kept : (visited beyond : Marks) (planes p : ℕ) (entry : Entry) (top : ℕ) (middle : List ℕ) (t m : Above) (bits : List Bool) → length middle ≡ 4 → p < 4
+    → t ≡ above_at planes top → m ≡ above_at planes (get_or middle p 0) → entry_list visited beyond p (above_at planes top) (kept_of (map (above_at planes) middle) p) entry ≡ bits
+    → entry_list visited beyond p t m entry ≡ bits
+list_kept visited beyond planes p entry top middle t m bits four hp et em h = rw (et, em ∙ sym (kept_is planes middle p four hp)) h

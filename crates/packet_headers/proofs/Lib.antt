@@ -5,6 +5,7 @@ pub mod ReadZeroPlanes
 pub mod ReadIncluded
 pub mod ReadBlocks
 pub mod CodewordLemmas
+pub mod PassLemmas
 pub mod BlockLemmas
 pub mod NodePaths
 pub mod MarkLemmas

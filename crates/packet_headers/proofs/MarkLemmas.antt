@@ -1,7 +1,7 @@
 -- What the marks of a band stand for, a block further.
 use Rattle.std.proofs.Common.{◌≡◌, ℕ, suc, zero, ◌+◌, ◌*◌, ◌/◌, ◌%◌, ◌<◌, ◌≤◌, Bool, true, false, List, [], ◌∷◌, ◌++◌, length, refl, sym, ap, ◌∙◌, inl, inr, arith, eqb}
 use Rattle.std.specs.Prelude.{◌==◌, ◌||◌, max, if◌then◌else◌}
-use Rattle.std.proofs.lemmas.Bool.{cases_eq, eq-eqb, ne_eqb}
+use Rattle.std.proofs.lemmas.Bool.{cases_eq, eq-eqb, ne_eqb, eqb-true}
 use Rattle.std.proofs.lemmas.List.{append-nil}
 use Rattle.tag_trees.specs.Bits.{bit_value}
 use Rattle.tag_trees.specs.TagTree.{Writing, leaf_node, middle_node, levels_above, path_of, is_among, largest}
@@ -12,7 +12,7 @@ use Rattle.packet_headers.specs.declared.entry.Entry.{Entry}
 use Rattle.packet_headers.specs.declared.above.Marks.{Marks}
 use Rattle.packet_headers.specs.Words.{BlockWords, BandTrees, leaf_writing, inclusion_writings, zero_plane_writings}
 use Rattle.packet_headers.specs.Written.{written_block}
-use Rattle.packet_headers.specs.WriterState.{IsBeyond, TopVisited, TopBeyond, MiddleVisited, MiddleBeyond, mark_of, Marked, MarkedIf, visits, zero_visits, MarksStand, TopFirst}
+use Rattle.packet_headers.specs.WriterState.{IsBeyond, TopVisited, TopBeyond, MiddleVisited, MiddleBeyond, mark_of, Marked, MarkedIf, visits, zero_visits, MarksStand, TopFirst, SeenFirst}
 use Rattle.packet_headers.proofs.BlockLemmas.{AtPlace, inclusion_writings-push, zero_plane_writings-push, at_place}
 
 -- which middle node is on the path of a leaf of a quarter
@@ -205,3 +205,27 @@ module _ (words : BandTrees) (before : List BlockWords) (entry : Entry) (x y p :
 pub order_kept : (b : Bool) (old new : Marks) (p : ℕ) → MarkedIf b old p new → TopFirst old → TopFirst new
 order_kept true old new p m o = λ q h k. m.top
 order_kept false old new p m o = rw m o
+
+-- an included block is marked in both trees
+seen_if : (b s t : Bool) → (t ≡ true → s ≡ true) → (if b then true else t) ≡ true → (if b then true else s) ≡ true
+seen_if true s t h m = refl
+seen_if false s t h m = h m
+
+seen_more : (b s : Bool) → s ≡ true → (if b then true else s) ≡ true
+seen_more true s h = refl
+seen_more false s h = h
+
+pub seen_kept : (b : Bool) (p : ℕ) (visited visited' beyond beyond' : Marks) → Marked visited p visited' → MarkedIf b beyond p beyond' → SeenFirst visited beyond → SeenFirst visited' beyond'
+seen_kept true p visited visited' beyond beyond' v m o = λ q h k. v.middle q h ∙ seen_if (p == q) (mark_of visited q) (mark_of beyond q) (o q h) (sym (m.middle q h) ∙ k)
+seen_kept false p visited visited' beyond beyond' v m o = λ q h k. v.middle q h ∙ seen_more (p == q) (mark_of visited q) (o q h (sym (ap (λ r. mark_of r q) m) ∙ k))
+
+-- where the nodes above a quarter are marked, nothing changes
+same_mark : (p n : ℕ) (b s : Bool) → (p ≡ n → s ≡ true) → (p == n) ≡ b → s ≡ (if b then true else s)
+same_mark p n true s h e = h (eqb-true p n e)
+same_mark p n false s h e = refl
+
+pub marked_before : (marks : Marks) (p : ℕ) → marks.top ≡ true → mark_of marks p ≡ true → Marked marks p marks
+marked_before marks p t m = record {
+  top = t;
+  middle = λ n h. same_mark p n (p == n) (mark_of marks n) (λ e. sym (ap (λ r. mark_of marks r) e) ∙ m) refl;
+}

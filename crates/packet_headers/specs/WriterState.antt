@@ -1,5 +1,5 @@
 -- What the writer of a band keeps of the nodes above the leaves.
-use Rattle.std.specs.Prelude.{◌≡◌, ℕ, suc, zero, ◌+◌, ◌-◌, ◌<◌, ◌≤◌, Bool, true, false, not, ◌&&◌, ◌==◌, if◌then◌else◌, List, [], ◌∷◌, ◌++◌, get_or}
+use Rattle.std.specs.Prelude.{◌≡◌, ℕ, suc, zero, ◌+◌, ◌-◌, ◌<◌, ◌≤◌, Bool, true, false, not, ◌&&◌, ◌==◌, nat_lt, if◌then◌else◌, List, [], ◌∷◌, ◌++◌, get_or}
 use Rattle.tag_trees.specs.Bits.{number, bit_value}
 use Rattle.tag_trees.specs.TagTree.{levels_above, largest}
 use Rattle.packet_headers.specs.declared.entry.Entry.{Entry}
@@ -71,6 +71,10 @@ inclusion_list visited top seen middle includes = bit_if (not visited) top ++ (b
 abbrev pub zero_plane_list : Bool → ℕ → Bool → ℕ → ℕ → List Bool
 zero_plane_list beyond top seen middle zeros = zeros_if (not beyond) top ++ (zeros_if (not seen) (middle - top) ++ number (zeros - middle + 1) 1)
 
+-- a node of a band of so many planes, by its least zero planes: those of an included block are fewer than the planes
+abbrev pub above_at : ℕ → ℕ → Above
+above_at planes least = record { included = nat_lt least planes; zero_planes = least }
+
 -- a node that is kept for a quarter; there are four
 abbrev pub kept_of : List Above → ℕ → Above
 kept_of middle quarter = get_or middle quarter (record { included = false; zero_planes = 0 })
@@ -95,6 +99,10 @@ TopFirst marks = (q : ℕ) → q < 4 → mark_of marks q ≡ true → marks.top 
 pub record Marked (old : Marks) (quarter : ℕ) (new : Marks) : Type 0 where
   pub top : new.top ≡ true
   pub middle : (n : ℕ) → n < 4 → mark_of new n ≡ (if quarter == n then true else mark_of old n)
+
+-- what has been written in the zero plane tree has been in the inclusion tree
+abbrev pub SeenFirst : Marks → Marks → Type 0
+SeenFirst visited beyond = (q : ℕ) → q < 4 → mark_of beyond q ≡ true → mark_of visited q ≡ true
 
 abbrev pub MarkedIf : Bool → Marks → ℕ → Marks → Type 0
 MarkedIf true old quarter new = Marked old quarter new

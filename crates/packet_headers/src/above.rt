@@ -1,7 +1,5 @@
 // What the writer keeps of the nodes above the leaves of a band's two tag trees.
-ghost use Rattle.std.specs.Prelude.{◌≡◌, ℕ, ◌+◌, ◌<◌, ◌≤◌, not, ◌||◌, ◌==◌, if◌then◌else◌, Bool, true, false, min, get_or};
-
-use crate::entry::Entry;
+ghost use Rattle.std.specs.Prelude.{◌≡◌, ℕ, ◌+◌, ◌<◌, ◌≤◌, not, ◌==◌, if◌then◌else◌, Bool, true, false, get_or};
 
 // A node of both trees: whether a block under it is included, and the least zero planes of those under it.
 #[derive(Clone, Copy)]
@@ -11,19 +9,17 @@ pub struct Above {
 }
 
 impl Above {
-    // A node with this block under it too, in a band of so many planes.
-    pub fn with(self, entry: &Entry, planes: u8) -> Above
-        ensures included { result.included ≡ (self.included || entry.now.included) }
-        ensures zero_planes { result.zero_planes ≡ min (if entry.now.included then entry.now.zero_planes else planes) self.zero_planes }
+    ghost use Rattle.packet_headers.specs.WriterState.{above_at};
+
+    // A node whose least zero planes are these, in a band of so many planes: an included block under it has
+    // fewer zero planes.
+    #[inline]
+    pub fn at(zero_planes: u8, planes: u8) -> Above
+        ensures { result ≡ above_at planes zero_planes }
     {
-        let zero_planes = if entry.included {
-            entry.zero_planes
-        } else {
-            planes
-        };
         Above {
-            included: self.included || entry.included,
-            zero_planes: zero_planes.min(self.zero_planes),
+            included: zero_planes < planes,
+            zero_planes,
         }
     }
 }

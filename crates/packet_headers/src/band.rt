@@ -1,54 +1,58 @@
 // Writing a band.
 ghost use Rattle.std.specs.Prelude.{◌≡◌, ◌+◌, ◌*◌, ◌<◌, ◌≤◌, [], ◌++◌, List, Bool, ℕ, length, map};
 ghost use Rattle.packet_headers.specs.Words.{blocks_bits};
-ghost use Rattle.packet_headers.specs.Written.{written_trees, written_band, CanWriteBand};
-ghost use Rattle.packet_headers.specs.WriterState.{AboveStands, MarksStand, TopFirst};
+ghost use Rattle.packet_headers.specs.Written.{written_trees, written_band, zero_plane_value, CanWriteBand};
+ghost use Rattle.packet_headers.specs.WriterState.{above_at, AboveStands, MarksStand, TopFirst, SeenFirst};
 
 use crate::above::{Above, Marks};
 use crate::block::{BandMarks, put_block};
+use crate::entry::Entry;
 use crate::packet::PacketBand;
 use crate::place::quarter_of;
 use tag_trees::BitSink;
 
-// The nodes above the leaves of a band's tag trees: the one above the middle ones, and one for each quarter.
+// The least zero planes of the nodes above the leaves of a band's tag trees: of the one above the middle ones,
+// and of one for each quarter.
 #[derive(Clone, Copy)]
 struct BandAbove {
-    top: Above,
-    middle: [Above; 4],
+    top: u8,
+    middle: [u8; 4],
+}
+
+// The number of a block's leaf in the zero plane tree: all planes of the band where the block isn't included.
+#[inline]
+fn leaf_zero_planes(entry: &Entry, planes: u8) -> u8
+    ensures { result ≡ zero_plane_value planes entry.now }
+{
+    if entry.included {
+        return entry.zero_planes;
+    }
+    planes
 }
 
 // A band of one block has no nodes above it, and one of at most 2 by 2 blocks none above the quarter's.
 fn above_of(band: &PacketBand) -> BandAbove
     requires { CanWriteBand band.now }
-    ensures { AboveStands (written_trees band.now) result.top result.middle }
+    ensures stand { AboveStands (written_trees band.now) (above_at band.now.planes result.top) (map (above_at band.now.planes) result.middle) }
+    ensures four { length result.middle ≡ 4 }
 {
-    let none = Above {
-        included: false,
-        zero_planes: u8::MAX,
-    };
-    let mut top = none;
-    let mut middle = [none; 4];
+    let mut top = u8::MAX;
+    let mut middle = [u8::MAX; 4];
     for (place, entry) in band.entries.as_slice().iter().enumerate() {
         let quarter = quarter_of(band.width, band.height, place);
-        top = top.with(entry, band.planes);
-        middle[quarter] = middle[quarter].with(entry, band.planes);
+        let zero_planes = leaf_zero_planes(entry, band.planes);
+        top = zero_planes.min(top);
+        middle[quarter] = zero_planes.min(middle[quarter]);
     }
-    let passed = Above {
-        included: true,
-        zero_planes: 0,
-    };
     let side = band.width.max(band.height);
     if side <= 1 {
         return BandAbove {
-            top: passed,
-            middle: [passed; 4],
+            top: 0,
+            middle: [0; 4],
         };
     }
     if side <= 2 {
-        return BandAbove {
-            top: passed,
-            middle,
-        };
+        return BandAbove { top: 0, middle };
     }
     BandAbove { top, middle }
 }
@@ -58,6 +62,7 @@ fn fresh_marks(band: &PacketBand) -> BandMarks
     ensures stand { MarksStand (written_trees band.now) [] result.visited result.beyond }
     ensures visited { TopFirst result.visited }
     ensures beyond { TopFirst result.beyond }
+    ensures seen { SeenFirst result.visited result.beyond }
 {
     let side = band.width.max(band.height);
     let marks = Marks {
@@ -85,10 +90,10 @@ pub fn put_band<S: BitSink>(band: &PacketBand, out: &mut S)
         put_block(
             &mut marks,
             quarter,
-            above.top,
-            above.middle[quarter],
+            Above::at(above.top, band.planes),
+            Above::at(above.middle[quarter], band.planes),
             band.planes,
-            *entry,
+            entry,
             out,
         );
     }

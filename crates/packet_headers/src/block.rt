@@ -1,11 +1,11 @@
 // Writing a block.
-ghost use Rattle.std.specs.Prelude.{◌≡◌, ◌+◌, ◌-◌, ◌<◌, ◌≤◌, ◌^◌, [], ◌++◌, List, Bool, ℕ, not, ◌&&◌, IsTrue};
+ghost use Rattle.std.specs.Prelude.{◌≡◌, ◌+◌, ◌-◌, ◌<◌, ◌≤◌, ◌^◌, [], ◌++◌, List, Bool, ℕ, not, ◌&&◌, true, IsTrue};
 ghost use Rattle.tag_trees.specs.Bits.{number};
 ghost use Rattle.packet_headers.specs.Written.{CanWriteEntry};
 ghost use Rattle.packet_headers.specs.WriterState.{inclusion_list, zero_plane_list, mark_of, entry_list, Marked, MarkedIf};
 
 use crate::above::{Above, Marks};
-use crate::codeword::{Codeword, numbers_codeword};
+use crate::codeword::{Codeword, joined, numbers_codeword};
 use crate::entry::Entry;
 use tag_trees::BitSink;
 
@@ -74,44 +74,114 @@ fn zero_plane_codeword(
         .with_zeros_if(true, zero_planes - middle)
 }
 
+// Marks the nodes above an included block in the inclusion tree, and answers its bits: a 1 for each that wasn't
+// marked, and for the block itself.
+#[inline]
+fn visited_codeword(visited: &mut Marks, quarter: usize) -> Codeword
+    requires quarter { quarter < 4 }
+    ensures bits { number result.width result.value ≡ inclusion_list visited.old.top true (mark_of visited.old quarter) true true }
+    ensures fits { result.value < 2 ^ result.width }
+    ensures few { result.width ≤ 3 }
+    ensures marked { Marked visited.old quarter visited.new }
+{
+    let marked = u32::from(visited.top) + u32::from(visited.middle[quarter]);
+    visited.top = true;
+    visited.middle[quarter] = true;
+    Codeword::ones(3 - marked)
+}
+
+// The bits of an included block in both trees. Above a leaf that is written in the zero plane tree all nodes are
+// written in both.
+#[inline]
+fn included_codeword(
+    marks: &mut BandMarks,
+    quarter: usize,
+    top: u8,
+    middle: u8,
+    zero_planes: u8,
+) -> Codeword
+    requires quarter { quarter < 4 }
+    requires visited { IsTrue (mark_of marks.old.visited quarter) → IsTrue marks.old.visited.top }
+    requires beyond { IsTrue (mark_of marks.old.beyond quarter) → IsTrue marks.old.beyond.top }
+    requires seen { IsTrue (mark_of marks.old.beyond quarter) → IsTrue (mark_of marks.old.visited quarter) }
+    requires top { top ≤ middle }
+    requires middle { middle ≤ zero_planes }
+    requires few { zero_planes < 20 }
+    ensures bits { number result.width result.value ≡ inclusion_list marks.old.visited.top true (mark_of marks.old.visited quarter) true true
+        ++ zero_plane_list marks.old.beyond.top top (mark_of marks.old.beyond quarter) middle zero_planes }
+    ensures fits { result.value < 2 ^ result.width }
+    ensures few { result.width ≤ 25 }
+    ensures visited { Marked marks.old.visited quarter marks.new.visited }
+    ensures beyond { Marked marks.old.beyond quarter marks.new.beyond }
+{
+    if marks.beyond.middle[quarter] {
+        return Codeword::ones(1).with_zeros_if(true, zero_planes - middle);
+    }
+    let ones = visited_codeword(&mut marks.visited, quarter);
+    zero_plane_codeword(ones, &mut marks.beyond, quarter, top, middle, zero_planes)
+}
+
+// Puts a codeword and another behind it, at once where they are few bits.
+#[inline]
+fn put_both<S: BitSink>(first: Codeword, last: Codeword, out: &mut S)
+    requires first { first.value < 2 ^ first.width }
+    requires last { last.value < 2 ^ last.width }
+    requires first_few { first.width ≤ 25 }
+    requires last_few { last.width ≤ 45 }
+    requires room { S.bit_count out.old + 100 ≤ 7000 }
+    ensures bits { (bits : List Bool) → S.StandsFor out.old bits →
+        S.StandsFor out.new (bits ++ (number first.width first.value ++ number last.width last.value)) }
+    ensures count { S.bit_count out.new ≡ S.bit_count out.old + (first.width + last.width) }
+{
+    if first.width + last.width <= 50 {
+        let both = joined(first, last);
+        out.put_number(both.width, both.value);
+        return;
+    }
+    out.put_number(first.width, first.value);
+    out.put_number(last.width, last.value);
+}
+
 // Puts a block's bits (ISO/IEC 15444-1, B.10.4 to B.10.7), in a band of at most 20 magnitude bit planes.
+#[inline]
 pub fn put_block<S: BitSink>(
     marks: &mut BandMarks,
     quarter: usize,
     top: Above,
     middle: Above,
     planes: u8,
-    entry: Entry,
+    entry: &Entry,
     out: &mut S,
 )
     requires quarter { quarter < 4 }
     requires visited { IsTrue (mark_of marks.old.visited quarter) → IsTrue marks.old.visited.top }
     requires beyond { IsTrue (mark_of marks.old.beyond quarter) → IsTrue marks.old.beyond.top }
+    requires seen { IsTrue (mark_of marks.old.beyond quarter) → IsTrue (mark_of marks.old.visited quarter) }
     requires planes { planes ≤ 20 }
-    requires entry { CanWriteEntry planes entry }
+    requires entry { CanWriteEntry planes entry.now }
     requires top { top.zero_planes ≤ middle.zero_planes }
-    requires middle { IsTrue entry.included → middle.zero_planes ≤ entry.zero_planes }
+    requires middle { IsTrue entry.now.included → middle.zero_planes ≤ entry.now.zero_planes }
+    requires top_includes { IsTrue entry.now.included → IsTrue top.included }
+    requires middle_includes { IsTrue entry.now.included → IsTrue middle.included }
     requires room { S.bit_count out.old + 100 ≤ 7000 }
     ensures bits { (bits : List Bool) → S.StandsFor out.old bits →
-        S.StandsFor out.new (bits ++ entry_list marks.old.visited marks.old.beyond quarter top middle entry) }
+        S.StandsFor out.new (bits ++ entry_list marks.old.visited marks.old.beyond quarter top middle entry.now) }
     ensures few { S.bit_count out.new ≤ S.bit_count out.old + 70 }
     ensures visited { Marked marks.old.visited quarter marks.new.visited }
-    ensures beyond { MarkedIf entry.included marks.old.beyond quarter marks.new.beyond }
+    ensures beyond { MarkedIf entry.now.included marks.old.beyond quarter marks.new.beyond }
 {
-    let inclusion = inclusion_codeword(&mut marks.visited, quarter, top, middle, entry.included);
     if !entry.included {
+        let inclusion = inclusion_codeword(&mut marks.visited, quarter, top, middle, false);
         out.put_number(inclusion.width, inclusion.value);
         return;
     }
-    let head = zero_plane_codeword(
-        inclusion,
-        &mut marks.beyond,
+    let head = included_codeword(
+        marks,
         quarter,
         top.zero_planes,
         middle.zero_planes,
         entry.zero_planes,
     );
-    out.put_number(head.width, head.value);
     let numbers = numbers_codeword(entry.passes, entry.len);
-    out.put_number(numbers.width, numbers.value);
+    put_both(head, numbers, out);
 }

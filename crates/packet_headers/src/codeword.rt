@@ -1,9 +1,10 @@
 // The codewords of a block's numbers.
-ghost use Rattle.std.specs.Prelude.{◌≡◌, ◌+◌, ◌<◌, ◌≤◌, ◌^◌, ◌*◌, ◌++◌, []};
+ghost use Rattle.std.specs.Prelude.{◌≡◌, ◌+◌, ◌<◌, ◌≤◌, ◌^◌, ◌*◌, ◌++◌, [], replicate, true};
 ghost use Rattle.tag_trees.specs.Bits.{number};
 ghost use Rattle.packet_headers.specs.Codewords.{pass_bits, length_bits, least_raise};
 ghost use Rattle.packet_headers.specs.WriterState.{bit_if, zeros_if};
 
+use crate::passes::pass_row;
 use cine_nums::bit_len;
 
 // The bits of a codeword, at most 50, as a number.
@@ -21,6 +22,19 @@ impl Codeword {
         ensures few { result.width ≡ 0 }
     {
         Codeword { width: 0, value: 0 }
+    }
+
+    // So many ones.
+    pub fn ones(width: u32) -> Codeword
+        requires { width ≤ 3 }
+        ensures bits { number result.width result.value ≡ replicate width true }
+        ensures fits { result.value < 2 ^ result.width }
+        ensures width { result.width ≡ width }
+    {
+        Codeword {
+            width,
+            value: (1 << width) - 1,
+        }
     }
 
     // A bit behind these, or none.
@@ -59,75 +73,40 @@ impl Codeword {
     }
 }
 
-// The codeword of a number of coding passes, 1 to 164 (ISO/IEC 15444-1, Table B.4).
-pub fn pass_codeword(passes: u8) -> Codeword
-    requires some { 1 ≤ passes }
-    requires most { passes ≤ 164 }
-    ensures bits { number result.width result.value ≡ pass_bits passes }
-    ensures fits { result.value < 2 ^ result.width }
-    ensures few { result.width ≤ 16 }
-    ensures short { passes ≤ 36 → result.width ≤ 9 }
-{
-    let passes = u64::from(passes);
-    if passes <= 1 {
-        return Codeword { width: 1, value: 0 };
-    }
-    if passes <= 2 {
-        return Codeword {
-            width: 2,
-            value: 0b10,
-        };
-    }
-    if passes <= 5 {
-        return Codeword {
-            width: 4,
-            value: 0b1100 + (passes - 3),
-        };
-    }
-    if passes <= 36 {
-        return Codeword {
-            width: 9,
-            value: 0b1_1110_0000 + (passes - 6),
-        };
-    }
-    Codeword {
-        width: 16,
-        value: 0b1111_1111_1000_0000 + (passes - 37),
-    }
-}
-
-// The raises of Lblock, as few as let the length fit, the 0 behind them, and the length of a block's bytes
-// (ISO/IEC 15444-1, B.10.7). There are at most 164 passes, and 1 to 131,072 bytes.
-pub fn length_codeword(passes: u8, len: u32) -> Codeword
-    requires some { 1 ≤ passes }
-    requires most { passes ≤ 164 }
-    requires len { len ≤ 131072 }
-    ensures bits { number result.width result.value ≡ length_bits passes (least_raise passes len) len }
-    ensures fits { result.value < 2 ^ result.width }
-    ensures few { result.width ≤ 34 }
-    ensures short { 37 ≤ passes → result.width ≤ 29 }
-{
-    let bytes = u64::from(len);
-    let least = 2 + u32::from(bit_len(u32::from(passes)));
-    let raise = u32::from(bit_len(len)).saturating_sub(least);
-    let width = least + raise;
-    Codeword {
-        width: raise + 1 + width,
-        value: (((2 << raise) - 2) << width) + bytes,
-    }
-}
-
-// The codewords of a block's coding passes and length, one behind the other.
+// The codewords of a block's coding passes and length (ISO/IEC 15444-1, B.10.6 and B.10.7), one behind the
+// other: Lblock is raised as often as lets the length fit. There are 1 to 58 passes, and 1 to 131,072 bytes.
+#[inline]
 pub fn numbers_codeword(passes: u8, len: u32) -> Codeword
     requires some { 1 ≤ passes }
-    requires most { passes ≤ 164 }
+    requires most { passes ≤ 58 }
     requires len { len ≤ 131072 }
     ensures bits { number result.width result.value ≡ pass_bits passes ++ length_bits passes (least_raise passes len) len }
     ensures fits { result.value < 2 ^ result.width }
     ensures few { result.width ≤ 45 }
 {
-    let first = pass_codeword(passes);
-    let last = length_codeword(passes, len);
+    let row = pass_row(passes);
+    let pass_width = u32::from(row.width);
+    let pass_value = u64::from(row.value);
+    let least = u32::from(row.least);
+    let bytes = u64::from(len);
+    let raise = u32::from(bit_len(len)).saturating_sub(least);
+    let width = least + raise;
+    Codeword {
+        width: pass_width + raise + 1 + width,
+        value: ((((pass_value + 1) << raise) - 1) << (width + 1)) + bytes,
+    }
+}
+
+// A codeword and another behind it, which are 50 bits at most.
+#[inline]
+pub fn joined(first: Codeword, last: Codeword) -> Codeword
+    requires room { first.width + last.width ≤ 50 }
+    requires first { first.value < 2 ^ first.width }
+    requires last { last.value < 2 ^ last.width }
+    ensures width { result.width ≡ first.width + last.width }
+    ensures bits { number result.width result.value ≡ number first.width first.value ++ number last.width last.value }
+    ensures fits { result.value < 2 ^ result.width }
+{
     Codeword {
         width: first.width + last.width,
         value: (first.value << last.width) + last.value,

@@ -19,6 +19,7 @@ mod block;
 mod codeword;
 mod entry;
 mod packet;
+mod passes;
 mod place;
 mod read_band;
 mod read_block;

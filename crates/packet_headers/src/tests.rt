@@ -2,7 +2,7 @@
 ghost use Rattle.std.specs.Prelude.{◌≡◌, ◌<◌, ◌≤◌, ◌+◌, ◌*◌, ◌-◌, length};
 ghost use Rattle.packet_headers.specs.Written.{CanWrite, CanWriteBand, CanWriteEntry};
 
-use crate::codeword::pass_codeword;
+use crate::passes::pass_row;
 use crate::{Entry, Packet, PacketBand, header, header_len};
 use arrayvec::ArrayVec;
 
@@ -107,10 +107,10 @@ fn packet_of(first: PacketBand, second: PacketBand, third: PacketBand) -> Packet
 
 #[test]
 fn codewords_of_36_and_37_passes(rt: HostRuntime) {
-    let nine_bits = pass_codeword(36);
+    let nine_bits = pass_row(36);
     assert_eq!(rt; nine_bits.width, 9);
     assert_eq!(rt; nine_bits.value, 0b1_1111_1110);
-    let sixteen_bits = pass_codeword(37);
+    let sixteen_bits = pass_row(37);
     assert_eq!(rt; sixteen_bits.width, 16);
     assert_eq!(rt; sixteen_bits.value, 0b1111_1111_1000_0000);
 }

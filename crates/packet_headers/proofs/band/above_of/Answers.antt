@@ -1,11 +1,11 @@
-use Rattle.std.proofs.Common.{false, ◌/◌, ◌%◌, length, refl, sym, ap, ◌∙◌, arith}
+use Rattle.std.proofs.Common.{false, ◌/◌, ◌%◌, min, length, get_or, refl, sym, ap, ◌∙◌, arith}
 use Rattle.std.proofs.lemmas.List.{length-set}
-use Rattle.packet_headers.proofs.BandLemmas.{kept_none, kept_more, inside, taken_push, taken_length, level_zero, level_one, level_two, above_zero, above_one, above_two, kept_all}
+use Rattle.packet_headers.proofs.BandLemmas.{least_none, least_more, inside, taken_push, taken_length, level_zero, level_one, level_two, above_zero, above_one, above_two, least_all}
 use Rattle.packet_headers.proofs.band.above_of.Goals as goal
 
 pub loop-place-init : goal.loop-place-init
 loop-place-init c = record {
-  kept = kept_none _ _ _ refl;
+  kept = least_none _ _;
   four = refl;
 }
 
@@ -17,20 +17,22 @@ loop-place-preserved c =
     let l = taken_length _ _ _ c.as_slice-entry-items.ensures.value c.loop-place-test.true in
     record {
       kept = rw (taken_push _ _ c.loop-place.place (record { included = false; zero_planes = 0; passes = 0; len = 0 }) c.as_slice-entry-items.ensures.value c.loop-place-test.true)
-          (kept_more _ _ _ _ (c.loop-place.place % c.args.band.now.width) (c.loop-place.place / c.args.band.now.width) _ _ _ _ _
+          (least_more _ _ _ _ (c.loop-place.place % c.args.band.now.width) (c.loop-place.place / c.args.band.now.width) _ _ _ _ _
           (ap (λ r. r % c.args.band.now.width) (sym l)) (ap (λ r. r / c.args.band.now.width) (sym l))
           (omega (arith, i.column, c.requires.width)) (omega (arith, i.row, c.requires.height)) c.quarter_of-quarter.ensures.below k.four c.quarter_of-quarter.ensures.node k.kept
-          c.with-top.ensures.included c.with-top.ensures.zero_planes c.with.ensures.included c.with.ensures.zero_planes);
+          (c.min-top.ensures ∙ ap (λ r. min r c.loop-place.top) c.leaf_zero_planes-zero_planes.ensures) (c.min.ensures ∙ ap (λ r. min r (get_or c.loop-place.middle c.quarter_of-quarter.result 0)) c.leaf_zero_planes-zero_planes.ensures));
       four = length-set _ _ _ ∙ k.four;
     }
 
-pub returns-then-side-le1 : goal.returns-then-side-le1
-returns-then-side-le1 c = above_zero c.args.band.now (level_zero _ _ (omega (arith, c.max-side.ensures, c.if-side-le1.true)))
+pub returns-then-side-le1-clause-stand : goal.returns-then-side-le1-clause-stand
+returns-then-side-le1-clause-stand c = above_zero c.args.band.now c.requires (level_zero _ _ (omega (arith, c.max-side.ensures, c.if-side-le1.true)))
 
-pub returns-then-side-le2 : goal.returns-then-side-le2
-returns-then-side-le2 c = above_one c.args.band.now _ _ (level_one _ _ (omega (arith, c.max-side.ensures, c.if-side-le1.false)) (omega (arith, c.max-side.ensures, c.if-side-le2.true)))
-    (kept_all c.args.band.now _ _ _ _ c.as_slice-entry-items.ensures.value c.loop-place-test.false c.loop-place.invariant.kept)
+pub returns-then-side-le2-clause-stand : goal.returns-then-side-le2-clause-stand
+returns-then-side-le2-clause-stand c = above_one c.args.band.now c.requires _ _ c.loop-place.invariant.four
+    (least_all c.args.band.now _ _ _ _ c.as_slice-entry-items.ensures.value c.loop-place-test.false c.loop-place.invariant.kept)
+    (level_one _ _ (omega (arith, c.max-side.ensures, c.if-side-le1.false)) (omega (arith, c.max-side.ensures, c.if-side-le2.true)))
 
-pub returns : goal.returns
-returns c = above_two c.args.band.now _ _ (level_two _ _ (omega (arith, c.max-side.ensures, c.if-side-le2.false)))
-    (kept_all c.args.band.now _ _ _ _ c.as_slice-entry-items.ensures.value c.loop-place-test.false c.loop-place.invariant.kept)
+pub returns-clause-stand : goal.returns-clause-stand
+returns-clause-stand c = above_two c.args.band.now c.requires _ _ c.loop-place.invariant.four
+    (least_all c.args.band.now _ _ _ _ c.as_slice-entry-items.ensures.value c.loop-place-test.false c.loop-place.invariant.kept)
+    (level_two _ _ (omega (arith, c.max-side.ensures, c.if-side-le2.false)))

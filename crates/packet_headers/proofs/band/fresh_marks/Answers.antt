@@ -9,3 +9,6 @@ returns-clause-visited c = order_first c.max-side.result
 
 pub returns-clause-beyond : goal.returns-clause-beyond
 returns-clause-beyond c = order_first c.max-side.result
+
+pub returns-clause-seen : goal.returns-clause-seen
+returns-clause-seen c = λ q h m. m

@@ -1,13 +1,11 @@
 use Rattle.std.proofs.Common.{false, refl, ◌/◌, ◌%◌, [], ◌++◌, map, take, append_assoc, sym, ap, ◌∙◌, subst, arith}
-use Rattle.std.proofs.Math.Nat.{zero-mod, zero-div}
 use Rattle.std.proofs.lemmas.List.{append-nil}
 use Rattle.packet_headers.specs.Words.{blocks_bits}
 use Rattle.packet_headers.specs.Written.{written_block, written_trees}
 use Rattle.packet_headers.proofs.BlockLemmas.{blocks_bits-push, written_push}
-use Rattle.packet_headers.proofs.MarkLemmas.{marks_further, order_kept}
+use Rattle.packet_headers.proofs.MarkLemmas.{marks_further, order_kept, seen_kept}
 use Rattle.packet_headers.proofs.AboveLemmas.{entry_bits}
-use Rattle.packet_headers.proofs.BandLemmas.{next_index}
-use Rattle.packet_headers.proofs.EntryLemmas.{entry_at}
+use Rattle.packet_headers.proofs.EntryLemmas.{entry_at, entry_kept, list_kept}
 use Rattle.packet_headers.proofs.band.put_band.Goals as goal
 
 pub loop-place-init : goal.loop-place-init
@@ -16,35 +14,50 @@ loop-place-init g c = record {
   marks = c.fresh_marks-marks.ensures.stand;
   visited_order = c.fresh_marks-marks.ensures.visited;
   beyond_order = c.fresh_marks-marks.ensures.beyond;
+  seen = c.fresh_marks-marks.ensures.seen;
   bits = λ bits h. subst (λ r. g.S.BitSink.StandsFor c.args.out.now r) (sym (append-nil bits)) h;
   few = omega arith;
 }
 
 pub put_block-requires-clause-top : goal.put_block-requires-clause-top
 put_block-requires-clause-top g c =
-    let a = entry_at c.args.band.now _ c.loop-place.place (c.loop-place.place % c.args.band.now.width) (c.loop-place.place / c.args.band.now.width) _ (record { included = false; zero_planes = 0; passes = 0; len = 0 }) _ _ c.requires.band
-    c.as_slice-entry-items.ensures.value c.loop-place-test.true refl refl c.quarter_of-quarter.ensures.node c.quarter_of-quarter.ensures.below c.above_of-above.ensures in
+    let a = entry_kept c.args.band.now _ c.loop-place.place _ (record { included = false; zero_planes = 0; passes = 0; len = 0 }) _ _ _ _ c.requires.band c.as_slice-entry-items.ensures.value c.loop-place-test.true
+    c.quarter_of-quarter.ensures.node c.quarter_of-quarter.ensures.below c.above_of-above.ensures.stand c.above_of-above.ensures.four c.at.ensures c.at-in-loop-place.ensures in
     a.rises.top_le
 
 pub put_block-requires-clause-middle : goal.put_block-requires-clause-middle
 put_block-requires-clause-middle g c =
-    let a = entry_at c.args.band.now _ c.loop-place.place (c.loop-place.place % c.args.band.now.width) (c.loop-place.place / c.args.band.now.width) _ (record { included = false; zero_planes = 0; passes = 0; len = 0 }) _ _ c.requires.band
-    c.as_slice-entry-items.ensures.value c.loop-place-test.true refl refl c.quarter_of-quarter.ensures.node c.quarter_of-quarter.ensures.below c.above_of-above.ensures in
+    let a = entry_kept c.args.band.now _ c.loop-place.place _ (record { included = false; zero_planes = 0; passes = 0; len = 0 }) _ _ _ _ c.requires.band c.as_slice-entry-items.ensures.value c.loop-place-test.true
+    c.quarter_of-quarter.ensures.node c.quarter_of-quarter.ensures.below c.above_of-above.ensures.stand c.above_of-above.ensures.four c.at.ensures c.at-in-loop-place.ensures in
     a.rises.middle_le
+
+pub put_block-requires-clause-top_includes : goal.put_block-requires-clause-top_includes
+put_block-requires-clause-top_includes g c =
+    let a = entry_kept c.args.band.now _ c.loop-place.place _ (record { included = false; zero_planes = 0; passes = 0; len = 0 }) _ _ _ _ c.requires.band c.as_slice-entry-items.ensures.value c.loop-place-test.true
+    c.quarter_of-quarter.ensures.node c.quarter_of-quarter.ensures.below c.above_of-above.ensures.stand c.above_of-above.ensures.four c.at.ensures c.at-in-loop-place.ensures in
+    λ h. a.rises.top_if (a.rises.middle_if h)
+
+pub put_block-requires-clause-middle_includes : goal.put_block-requires-clause-middle_includes
+put_block-requires-clause-middle_includes g c =
+    let a = entry_kept c.args.band.now _ c.loop-place.place _ (record { included = false; zero_planes = 0; passes = 0; len = 0 }) _ _ _ _ c.requires.band c.as_slice-entry-items.ensures.value c.loop-place-test.true
+    c.quarter_of-quarter.ensures.node c.quarter_of-quarter.ensures.below c.above_of-above.ensures.stand c.above_of-above.ensures.four c.at.ensures c.at-in-loop-place.ensures in
+    a.rises.middle_if
 
 pub loop-place-preserved : goal.loop-place-preserved
 loop-place-preserved g c =
     let words = written_trees c.args.band.now in
     let k = c.loop-place.invariant in
     let a = entry_at c.args.band.now _ c.loop-place.place (c.loop-place.place % c.args.band.now.width) (c.loop-place.place / c.args.band.now.width) _ (record { included = false; zero_planes = 0; passes = 0; len = 0 }) _ _ c.requires.band
-    c.as_slice-entry-items.ensures.value c.loop-place-test.true refl refl c.quarter_of-quarter.ensures.node c.quarter_of-quarter.ensures.below c.above_of-above.ensures in
+    c.as_slice-entry-items.ensures.value c.loop-place-test.true refl refl c.quarter_of-quarter.ensures.node c.quarter_of-quarter.ensures.below c.above_of-above.ensures.stand in
     let push = written_push c.args.band.now.entries.items _ c.loop-place.place (record { included = false; zero_planes = 0; passes = 0; len = 0 }) c.as_slice-entry-items.ensures.value c.loop-place-test.true in
-    let own = entry_bits words _ _ _ _ _ _ _ _ _ c.quarter_of-quarter.ensures.node c.quarter_of-quarter.ensures.below a.at c.above_of-above.ensures k.marks a.rises a.includes a.zero_planes a.fresh a.zero_fresh in
+    let own = list_kept _ _ _ _ _ _ _ _ _ _ c.above_of-above.ensures.four c.quarter_of-quarter.ensures.below c.at.ensures c.at-in-loop-place.ensures
+    (entry_bits words _ _ _ _ _ _ _ _ _ c.quarter_of-quarter.ensures.node c.quarter_of-quarter.ensures.below a.at c.above_of-above.ensures.stand k.marks a.rises a.includes a.zero_planes a.fresh a.zero_fresh) in
     record {
       marks = rw push (marks_further words _ _ _ _ _ (omega (arith, a.inside.column, c.requires.band.width)) (omega (arith, a.inside.row, c.requires.band.height)) c.quarter_of-quarter.ensures.node a.at a.rises.below
           _ _ _ _ k.marks c.put_block.ensures.visited c.put_block.ensures.beyond);
       visited_order = λ q h m. c.put_block.ensures.visited.top;
       beyond_order = order_kept _ _ _ _ c.put_block.ensures.beyond k.beyond_order;
+      seen = seen_kept _ _ _ _ _ _ c.put_block.ensures.visited c.put_block.ensures.beyond k.seen;
       bits = λ bits h. rw (push, blocks_bits-push) (subst (λ r. g.S.BitSink.StandsFor c.put_block.new.out r) (ap (λ r. (bits ++ blocks_bits words [] (map written_block (take c.loop-place.place c.args.band.now.entries.items))) ++ r) own ∙ append_assoc bits _ _)
           (c.put_block.ensures.bits _ (k.bits bits h)));
       few = omega (arith, c.put_block.ensures.few, k.few);

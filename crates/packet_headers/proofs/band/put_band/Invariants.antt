@@ -1,7 +1,7 @@
-use Rattle.std.proofs.Common.{◌≡◌, ◌+◌, ◌*◌, ◌/◌, ◌%◌, ◌≤◌, List, Bool, [], ◌++◌, map, take}
+use Rattle.std.proofs.Common.{◌+◌, ◌*◌, ◌≤◌, List, Bool, [], ◌++◌, map, take}
 use Rattle.packet_headers.specs.Words.{blocks_bits}
 use Rattle.packet_headers.specs.Written.{written_block, written_trees}
-use Rattle.packet_headers.specs.WriterState.{MarksStand, TopFirst}
+use Rattle.packet_headers.specs.WriterState.{MarksStand, TopFirst, SeenFirst}
 use Rattle.packet_headers.proofs.band.put_band.Given as goal
 
 abbrev pub invariant-loop-place : goal.invariant-loop-place
@@ -9,6 +9,7 @@ invariant-loop-place g l = record {
   marks : MarksStand (written_trees l.band) (map written_block (take l.place l.band.entries.items)) l.marks.visited l.marks.beyond;
   visited_order : TopFirst l.marks.visited;
   beyond_order : TopFirst l.marks.beyond;
+  seen : SeenFirst l.marks.visited l.marks.beyond;
   bits : (bits : List Bool) → g.S.BitSink.StandsFor l.initial.out bits
       → g.S.BitSink.StandsFor l.out (bits ++ blocks_bits (written_trees l.band) [] (map written_block (take l.place l.band.entries.items)));
   few : g.S.BitSink.bit_count l.out ≤ g.S.BitSink.bit_count l.initial.out + 70 * l.place;

@@ -1,31 +1,40 @@
-use Rattle.std.proofs.Common.{◌++◌, ap, ◌∙◌, arith}
-use Rattle.tag_trees.specs.Bits.{number}
-use Rattle.tag_trees.proofs.SpillLemmas.{number-join, join_below}
-use Rattle.packet_headers.specs.Codewords.{pass_bits}
-use Rattle.packet_headers.proofs.CodewordLemmas.{joined_whole, joined_small}
+use Rattle.std.proofs.Common.{◌+◌, ◌-◌, refl, ap, ◌∙◌, arith}
+use Rattle.packet_headers.proofs.CodewordLemmas.{NumbersParts, length_widths, raised_whole, raised_some, numbers_whole, numbers_small, numbers_few, numbers_fits, numbers_bits}
 use Rattle.packet_headers.proofs.codeword.numbers_codeword.Goals as goal
+use Rattle.packet_headers.proofs.codeword.numbers_codeword.Goals.{After-saturating_sub-raise}
+
+parts : (c : After-saturating_sub-raise)
+    → NumbersParts c.args.passes c.args.len c.pass_row-row.result.width c.pass_row-row.result.value c.from-least.result c.saturating_sub-raise.result
+    (c.from-least.result + c.saturating_sub-raise.result)
+parts c = record {
+  bits = c.pass_row-row.ensures.bits;
+  v_fits = c.pass_row-row.ensures.fits;
+  v_few = c.pass_row-row.ensures.few;
+  v_short = c.pass_row-row.ensures.short;
+  widths = length_widths _ _ _ _ _ c.requires.some (omega (arith, c.requires.most)) c.requires.len (c.from-least.ensures ∙ c.pass_row-row.ensures.least)
+      (c.saturating_sub-raise.ensures ∙ ap (λ k. k - c.from-least.result) (c.from.ensures ∙ c.bit_len.ensures.value)) refl;
+}
 
 pub overflow_shl-result : goal.overflow_shl-result
-overflow_shl-result c = omega (arith, c.length_codeword-last.ensures.few)
+overflow_shl-result c = let few = (parts c).widths.raise_few in omega arith
 
-pub overflow_add-result : goal.overflow_add-result
-overflow_add-result c = omega (arith, c.length_codeword-last.ensures.few, c.pass_codeword-first.ensures.few)
+pub overflow_sub-result : goal.overflow_sub-result
+overflow_sub-result c = rw (c.from-pass_value.ensures, raised_whole _ _ _ _ _ _ _ (parts c)) (raised_some _ _ _ _ _ _ _ (parts c))
 
-pub overflow_add-result-2 : goal.overflow_add-result-2
-overflow_add-result-2 c =
-    let f = c.pass_codeword-first.ensures in
-    let l = c.length_codeword-last.ensures in
-    rw (joined_whole _ _ _ _ f.few f.fits l.few l.fits) (let s = joined_small _ _ _ _ f.few f.fits l.few l.fits in omega arith)
+pub overflow_shl-result-2 : goal.overflow_shl-result-2
+overflow_shl-result-2 c = let few = (parts c).widths.few in omega arith
+
+pub overflow_add-result-6 : goal.overflow_add-result-6
+overflow_add-result-6 c =
+    rw (c.from-pass_value.ensures, c.from-bytes.ensures, raised_whole _ _ _ _ _ _ _ (parts c), numbers_whole _ _ _ _ _ _ _ (parts c)) (let s = numbers_small _ _ _ _ _ _ _ (parts c) in omega arith)
 
 pub returns-clause-bits : goal.returns-clause-bits
 returns-clause-bits c =
-    let f = c.pass_codeword-first.ensures in
-    let l = c.length_codeword-last.ensures in
-    rw (joined_whole _ _ _ _ f.few f.fits l.few l.fits)
-    (number-join _ _ _ _ l.fits ∙ ap (λ r. r ++ number c.length_codeword-last.result.width c.length_codeword-last.result.value) f.bits ∙ ap (λ r. pass_bits c.args.passes ++ r) l.bits)
+    rw (c.from-pass_width.ensures, c.from-pass_value.ensures, c.from-bytes.ensures, raised_whole _ _ _ _ _ _ _ (parts c), numbers_whole _ _ _ _ _ _ _ (parts c)) (numbers_bits _ _ _ _ _ _ _ (parts c))
 
 pub returns-clause-fits : goal.returns-clause-fits
 returns-clause-fits c =
-    let f = c.pass_codeword-first.ensures in
-    let l = c.length_codeword-last.ensures in
-    rw (joined_whole _ _ _ _ f.few f.fits l.few l.fits) (join_below _ _ _ _ f.fits l.fits)
+    rw (c.from-pass_width.ensures, c.from-pass_value.ensures, c.from-bytes.ensures, raised_whole _ _ _ _ _ _ _ (parts c), numbers_whole _ _ _ _ _ _ _ (parts c)) (numbers_fits _ _ _ _ _ _ _ (parts c))
+
+pub returns-clause-few : goal.returns-clause-few
+returns-clause-few c = rw c.from-pass_width.ensures (numbers_few _ _ _ _ _ _ _ (parts c))
