@@ -1,13 +1,14 @@
 -- The codewords of a block's numbers, as numbers.
 use Rattle.std.proofs.Common.{◌≡◌, ℕ, suc, zero, ◌+◌, ◌-◌, ◌*◌, ◌/◌, ◌%◌, ◌^◌, ◌<◌, ◌≤◌, true, false, [], ◌∷◌, ◌++◌, refl, sym, ap, subst, ◌∙◌, inl, inr, arith, append_assoc, add-one}
-use Rattle.std.specs.Prelude.{◌==◌, replicate}
+use Rattle.std.specs.Prelude.{◌==◌, replicate, bit_or}
+use Rattle.std.specs.Int.Bits.{or_step, or_zero_r}
 use Rattle.std.proofs.lemmas.Bool.{cases_lt}
 use Rattle.std.proofs.lemmas.List.{replicate_more}
-use Rattle.std.proofs.Math.Nat.{pow-suc, one-le-pow, mul-le-mul_right}
+use Rattle.std.proofs.Math.Nat.{pow-suc, one-le-pow, mul-le-mul_right, mod-lt}
 use Rattle.std.proofs.lemmas.Nat.{pow-add}
 use Rattle.std.proofs.Math.Pow.{pow_mono}
 use Rattle.cine_nums.specs.Bits.{bit_len}
-use Rattle.cine_nums.proofs.BitLength.{bit_len-above, bit_len-within, bit_len-monotone}
+use Rattle.cine_nums.proofs.BitLength.{bit_len-above, bit_len-below, bit_len-within, bit_len-monotone, bit_len-unique}
 use Rattle.tag_trees.specs.Bits.{number}
 use Rattle.tag_trees.proofs.SpillLemmas.{number-join, join_below, one_fits}
 use Rattle.packet_headers.specs.Codewords.{pass_bits, length_bits, length_width, least_raise}
@@ -102,6 +103,23 @@ numbers_value v r w len =
     let p : 2 ^ (w + 1) ≡ 2 ^ w * 2 = rw add-one (pow-suc 2 w) in
     let q : 2 ^ (r + 1 + w) ≡ 2 ^ r * 2 * 2 ^ w = pow-add 2 (r + 1) w ∙ ap (λ k. k * 2 ^ w) (rw add-one (pow-suc 2 r)) in
     rw (p, q) (subst (λ k. ((v + 1) * k - 1) * (2 ^ w * 2) + len ≡ v * (k * 2 * 2 ^ w) + ((2 * k - 2) * 2 ^ w + len)) (sym x) (double_shift v (2 ^ r - 1) (2 ^ w) len))
+
+-- the lowest bit of a number doesn't change its length
+or_one : (n : ℕ) → bit_or n 1 ≡ n / 2 * 2 + 1
+or_one n =
+    let r : n % 2 < 2 = mod-lt n (omega arith) in
+    or_step n 1 ∙ (let z : bit_or (n / 2) 0 ≡ n / 2 = or_zero_r (n / 2) in rw z (omega arith))
+
+pub log_is : (n : ℕ) → 1 ≤ n → bit_len (bit_or n 1) ≡ bit_len n
+log_is n h =
+    let above : n < 2 ^ bit_len n = bit_len-above n in
+    let below : 2 ^ (bit_len n - 1) ≤ n = bit_len-below n h in
+    let one : 1 ≤ bit_len n = least_one n h in
+    let half : 2 ^ bit_len n ≡ 2 ^ (bit_len n - 1) * 2 = (let e : bit_len n ≡ suc (bit_len n - 1) = omega arith in ap (λ k. 2 ^ k) e ∙ pow-suc 2 (bit_len n - 1)) in
+    rw (or_one n) (bit_len-unique (n / 2 * 2 + 1) (bit_len n) (omega arith) (omega arith))
+
+pub log_some : (n : ℕ) → 1 ≤ n → 1 ≤ bit_len (bit_or n 1)
+log_some n h = rw (log_is n h) (least_one n h)
 
 -- these are a codeword of the passes, and a length's
 pub record NumbersParts (passes len pass_width v least raise width : ℕ) : Type 0 where

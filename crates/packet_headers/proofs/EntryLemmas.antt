@@ -86,17 +86,16 @@ entry_at band items place x y p d top middle can e h ex ey m hp a =
       zero_fresh = fresh_zero_planes (levels_above band.width band.height) band.width 0 x y (map written_block (take place band.entries.items)) can.width i.column (omega arith) (omega arith);
     }
 
--- the same where these are the nodes that are kept
-pub entry_kept : (band : PacketBand) (items : List Entry) (place p : ℕ) (d : Entry) (top : ℕ) (middle : List ℕ) (t m : Above) → CanWriteBand band → items ≡ band.entries.items → place < length items
+-- the same where the least zero planes of the nodes are kept
+pub entry_kept : (band : PacketBand) (items : List Entry) (place p : ℕ) (d : Entry) (top : ℕ) (middle : List ℕ) → CanWriteBand band → items ≡ band.entries.items → place < length items
     → middle_node (place % band.width) (place / band.width) ≡ 16 + p → p < 4 → AboveStands (written_trees band) (above_at band.planes top) (map (above_at band.planes) middle) → length middle ≡ 4
-    → t ≡ above_at band.planes top → m ≡ above_at band.planes (get_or middle p 0) → EntryAt band place (place % band.width) (place / band.width) p (get_or items place d) t m
-entry_kept band items place p d top middle t m can e h n hp a four et em =
-    let own = entry_at band items place (place % band.width) (place / band.width) p d (above_at band.planes top) (map (above_at band.planes) middle) can e h refl refl n hp a in
-    let kept = em ∙ sym (kept_is band.planes middle p four hp) in
-    subst (λ k. EntryAt band place (place % band.width) (place / band.width) p (get_or items place d) k m) (sym et)
-    (subst (λ k. EntryAt band place (place % band.width) (place / band.width) p (get_or items place d) (above_at band.planes top) k) (sym kept) own)
+    → EntryAt band place (place % band.width) (place / band.width) p (get_or items place d) (above_at band.planes top) (above_at band.planes (get_or middle p 0))
+entry_kept band items place p d top middle can e h n hp a four =
+    subst (λ k. EntryAt band place (place % band.width) (place / band.width) p (get_or items place d) (above_at band.planes top) k) (kept_is band.planes middle p four hp)
+    (entry_at band items place (place % band.width) (place / band.width) p d (above_at band.planes top) (map (above_at band.planes) middle) can e h refl refl n hp a)
 
-pub list_kept : (visited beyond : Marks) (planes p : ℕ) (entry : Entry) (top : ℕ) (middle : List ℕ) (t m : Above) (bits : List Bool) → length middle ≡ 4 → p < 4
-    → t ≡ above_at planes top → m ≡ above_at planes (get_or middle p 0) → entry_list visited beyond p (above_at planes top) (kept_of (map (above_at planes) middle) p) entry ≡ bits
-    → entry_list visited beyond p t m entry ≡ bits
-list_kept visited beyond planes p entry top middle t m bits four hp et em h = rw (et, em ∙ sym (kept_is planes middle p four hp)) h
+pub list_kept : (visited beyond : Marks) (planes p : ℕ) (entry : Entry) (top : ℕ) (middle : List ℕ) (bits : List Bool) → length middle ≡ 4 → p < 4
+    → entry_list visited beyond p (above_at planes top) (kept_of (map (above_at planes) middle) p) entry ≡ bits
+    → entry_list visited beyond p (above_at planes top) (above_at planes (get_or middle p 0)) entry ≡ bits
+list_kept visited beyond planes p entry top middle bits four hp h =
+    subst (λ k. entry_list visited beyond p (above_at planes top) k entry ≡ bits) (kept_is planes middle p four hp) h

@@ -77,7 +77,7 @@ word_is n m = elim (cases_lt 1 n) [
 
 -- a row says so
 row_fits : ℕ → PassRow → Bool
-row_fits n row = eqb row.value (word_value n) && (eqb row.width (word_width n) && eqb row.least (2 + bit_len n))
+row_fits n row = eqb row.value (word_value n) && (eqb row.bits (word_width n + (row.log + 2)) && eqb row.log (1 + bit_len n))
 
 rows_fit : ℕ → List PassRow → Bool
 rows_fit n [] = true
@@ -96,43 +96,46 @@ row_at (row ∷ rows) n (suc k) d h l =
     rw z (row_at rows (n + 1) k d (both (row_fits n row) (rows_fit (n + 1) rows) h).1 (omega arith))
 
 pub record RowIs (n : ℕ) (row : PassRow) : Type 0 where
-  pub bits : number row.width row.value ≡ pass_bits n
-  pub fits : row.value < 2 ^ row.width
-  pub few : row.width ≤ 16
-  pub short : n ≤ 36 → row.width ≤ 9
-  pub least : row.least ≡ 2 + bit_len n
+  pub bits : number (row.bits - (row.log + 2)) row.value ≡ pass_bits n
+  pub fits : row.value < 2 ^ (row.bits - (row.log + 2))
+  pub some : row.log + 2 ≤ row.bits
+  pub few : row.bits - (row.log + 2) ≤ 16
+  pub short : n ≤ 36 → row.bits - (row.log + 2) ≤ 9
+  pub log : row.log ≡ 1 + bit_len n
 
 row_says : (n : ℕ) (row : PassRow) → n ≤ 164 → row_fits n row ≡ true → RowIs n row
 unfolding row_fits
 row_says n row m h =
-    let a = both (eqb row.value (word_value n)) (eqb row.width (word_width n) && eqb row.least (2 + bit_len n)) h in
-    let b = both (eqb row.width (word_width n)) (eqb row.least (2 + bit_len n)) a.1 in
+    let a = both (eqb row.value (word_value n)) (eqb row.bits (word_width n + (row.log + 2)) && eqb row.log (1 + bit_len n)) h in
+    let b = both (eqb row.bits (word_width n + (row.log + 2))) (eqb row.log (1 + bit_len n)) a.1 in
     let v = eqb-true row.value (word_value n) a.0 in
-    let w = eqb-true row.width (word_width n) b.0 in
+    let t = eqb-true row.bits (word_width n + (row.log + 2)) b.0 in
+    let w : row.bits - (row.log + 2) ≡ word_width n = omega arith in
     let i = word_is n m in
     record {
       bits = ap (λ k. number k row.value) w ∙ ap (λ k. number (word_width n) k) v ∙ i.bits;
       fits = rw (v, w) i.fits;
+      some = omega arith;
       few = rw w i.few;
       short = λ k. rw w (i.short k);
-      least = eqb-true row.least (2 + bit_len n) b.1;
+      log = eqb-true row.log (1 + bit_len n) b.1;
     }
 
 -- the table of the code
 abbrev pub line : ℕ → ℕ → ℕ → PassRow
-line value width least = record { value = value; width = width; least = least }
+line value bits log = record { value = value; bits = bits; log = log }
 
 unfoldable pub pass_table : List PassRow
 pass_table =
-    line 0 1 2 ∷ line 0 1 3 ∷ line 2 2 4 ∷ line 12 4 4 ∷ line 13 4 5 ∷ line 14 4 5 ∷ line 480 9 5 ∷
-    line 481 9 5 ∷ line 482 9 6 ∷ line 483 9 6 ∷ line 484 9 6 ∷ line 485 9 6 ∷ line 486 9 6 ∷ line 487 9 6 ∷
-    line 488 9 6 ∷ line 489 9 6 ∷ line 490 9 7 ∷ line 491 9 7 ∷ line 492 9 7 ∷ line 493 9 7 ∷ line 494 9 7 ∷
-    line 495 9 7 ∷ line 496 9 7 ∷ line 497 9 7 ∷ line 498 9 7 ∷ line 499 9 7 ∷ line 500 9 7 ∷ line 501 9 7 ∷
-    line 502 9 7 ∷ line 503 9 7 ∷ line 504 9 7 ∷ line 505 9 7 ∷ line 506 9 8 ∷ line 507 9 8 ∷ line 508 9 8 ∷
-    line 509 9 8 ∷ line 510 9 8 ∷ line 65408 16 8 ∷ line 65409 16 8 ∷ line 65410 16 8 ∷ line 65411 16 8 ∷ line 65412 16 8 ∷
-    line 65413 16 8 ∷ line 65414 16 8 ∷ line 65415 16 8 ∷ line 65416 16 8 ∷ line 65417 16 8 ∷ line 65418 16 8 ∷ line 65419 16 8 ∷
-    line 65420 16 8 ∷ line 65421 16 8 ∷ line 65422 16 8 ∷ line 65423 16 8 ∷ line 65424 16 8 ∷ line 65425 16 8 ∷ line 65426 16 8 ∷
-    line 65427 16 8 ∷ line 65428 16 8 ∷ line 65429 16 8 ∷ []
+    line 0 4 1 ∷ line 0 5 2 ∷ line 2 7 3 ∷ line 12 9 3 ∷ line 13 10 4 ∷ line 14 10 4 ∷ line 480 15 4 ∷
+    line 481 15 4 ∷ line 482 16 5 ∷ line 483 16 5 ∷ line 484 16 5 ∷ line 485 16 5 ∷ line 486 16 5 ∷ line 487 16 5 ∷
+    line 488 16 5 ∷ line 489 16 5 ∷ line 490 17 6 ∷ line 491 17 6 ∷ line 492 17 6 ∷ line 493 17 6 ∷ line 494 17 6 ∷
+    line 495 17 6 ∷ line 496 17 6 ∷ line 497 17 6 ∷ line 498 17 6 ∷ line 499 17 6 ∷ line 500 17 6 ∷ line 501 17 6 ∷
+    line 502 17 6 ∷ line 503 17 6 ∷ line 504 17 6 ∷ line 505 17 6 ∷ line 506 18 7 ∷ line 507 18 7 ∷ line 508 18 7 ∷
+    line 509 18 7 ∷ line 510 18 7 ∷ line 65408 25 7 ∷ line 65409 25 7 ∷ line 65410 25 7 ∷ line 65411 25 7 ∷ line 65412 25 7 ∷
+    line 65413 25 7 ∷ line 65414 25 7 ∷ line 65415 25 7 ∷ line 65416 25 7 ∷ line 65417 25 7 ∷ line 65418 25 7 ∷ line 65419 25 7 ∷
+    line 65420 25 7 ∷ line 65421 25 7 ∷ line 65422 25 7 ∷ line 65423 25 7 ∷ line 65424 25 7 ∷ line 65425 25 7 ∷ line 65426 25 7 ∷
+    line 65427 25 7 ∷ line 65428 25 7 ∷ line 65429 25 7 ∷ []
 
 all_fit : rows_fit 0 pass_table ≡ true
 unfolding rows_fit row_fits pass_table

@@ -4,7 +4,7 @@ ghost use Rattle.packet_headers.specs.Words.{blocks_bits};
 ghost use Rattle.packet_headers.specs.Written.{written_trees, written_band, zero_plane_value, CanWriteBand};
 ghost use Rattle.packet_headers.specs.WriterState.{above_at, AboveStands, MarksStand, TopFirst, SeenFirst};
 
-use crate::above::{Above, Marks};
+use crate::above::Marks;
 use crate::block::{BandMarks, put_block};
 use crate::entry::Entry;
 use crate::packet::PacketBand;
@@ -90,8 +90,8 @@ pub fn put_band<S: BitSink>(band: &PacketBand, out: &mut S)
         put_block(
             &mut marks,
             quarter,
-            Above::at(above.top, band.planes),
-            Above::at(above.middle[quarter], band.planes),
+            above.top,
+            above.middle[quarter],
             band.planes,
             entry,
             out,

@@ -2,7 +2,7 @@
 ghost use Rattle.std.specs.Prelude.{◌≡◌, ◌+◌, ◌-◌, ◌<◌, ◌≤◌, ◌^◌, [], ◌++◌, List, Bool, ℕ, not, ◌&&◌, true, IsTrue};
 ghost use Rattle.tag_trees.specs.Bits.{number};
 ghost use Rattle.packet_headers.specs.Written.{CanWriteEntry};
-ghost use Rattle.packet_headers.specs.WriterState.{inclusion_list, zero_plane_list, mark_of, entry_list, Marked, MarkedIf};
+ghost use Rattle.packet_headers.specs.WriterState.{above_at, inclusion_list, zero_plane_list, mark_of, entry_list, Marked, MarkedIf};
 
 use crate::above::{Above, Marks};
 use crate::codeword::{Codeword, joined, numbers_codeword};
@@ -142,13 +142,14 @@ fn put_both<S: BitSink>(first: Codeword, last: Codeword, out: &mut S)
     out.put_number(last.width, last.value);
 }
 
-// Puts a block's bits (ISO/IEC 15444-1, B.10.4 to B.10.7), in a band of at most 20 magnitude bit planes.
+// Puts a block's bits (ISO/IEC 15444-1, B.10.4 to B.10.7), in a band of at most 20 magnitude bit planes. Above it
+// are nodes of these least zero planes.
 #[inline]
 pub fn put_block<S: BitSink>(
     marks: &mut BandMarks,
     quarter: usize,
-    top: Above,
-    middle: Above,
+    top: u8,
+    middle: u8,
     planes: u8,
     entry: &Entry,
     out: &mut S,
@@ -159,29 +160,27 @@ pub fn put_block<S: BitSink>(
     requires seen { IsTrue (mark_of marks.old.beyond quarter) → IsTrue (mark_of marks.old.visited quarter) }
     requires planes { planes ≤ 20 }
     requires entry { CanWriteEntry planes entry.now }
-    requires top { top.zero_planes ≤ middle.zero_planes }
-    requires middle { IsTrue entry.now.included → middle.zero_planes ≤ entry.now.zero_planes }
-    requires top_includes { IsTrue entry.now.included → IsTrue top.included }
-    requires middle_includes { IsTrue entry.now.included → IsTrue middle.included }
+    requires top { top ≤ middle }
+    requires middle { IsTrue entry.now.included → middle ≤ entry.now.zero_planes }
     requires room { S.bit_count out.old + 100 ≤ 7000 }
     ensures bits { (bits : List Bool) → S.StandsFor out.old bits →
-        S.StandsFor out.new (bits ++ entry_list marks.old.visited marks.old.beyond quarter top middle entry.now) }
+        S.StandsFor out.new (bits ++ entry_list marks.old.visited marks.old.beyond quarter (above_at planes top) (above_at planes middle) entry.now) }
     ensures few { S.bit_count out.new ≤ S.bit_count out.old + 70 }
     ensures visited { Marked marks.old.visited quarter marks.new.visited }
     ensures beyond { MarkedIf entry.now.included marks.old.beyond quarter marks.new.beyond }
 {
     if !entry.included {
-        let inclusion = inclusion_codeword(&mut marks.visited, quarter, top, middle, false);
+        let inclusion = inclusion_codeword(
+            &mut marks.visited,
+            quarter,
+            Above::at(top, planes),
+            Above::at(middle, planes),
+            false,
+        );
         out.put_number(inclusion.width, inclusion.value);
         return;
     }
-    let head = included_codeword(
-        marks,
-        quarter,
-        top.zero_planes,
-        middle.zero_planes,
-        entry.zero_planes,
-    );
+    let head = included_codeword(marks, quarter, top, middle, entry.zero_planes);
     let numbers = numbers_codeword(entry.passes, entry.len);
     put_both(head, numbers, out);
 }

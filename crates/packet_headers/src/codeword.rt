@@ -79,21 +79,22 @@ impl Codeword {
 pub fn numbers_codeword(passes: u8, len: u32) -> Codeword
     requires some { 1 ≤ passes }
     requires most { passes ≤ 58 }
+    requires some_bytes { 1 ≤ len }
     requires len { len ≤ 131072 }
     ensures bits { number result.width result.value ≡ pass_bits passes ++ length_bits passes (least_raise passes len) len }
     ensures fits { result.value < 2 ^ result.width }
     ensures few { result.width ≤ 45 }
 {
     let row = pass_row(passes);
-    let pass_width = u32::from(row.width);
     let pass_value = u64::from(row.value);
-    let least = u32::from(row.least);
+    let least = u32::from(row.bits);
+    let most = u32::from(row.log);
     let bytes = u64::from(len);
-    let raise = u32::from(bit_len(len)).saturating_sub(least);
-    let width = least + raise;
+    let log = u32::from(bit_len(len | 1)) - 1;
+    let raise = log.saturating_sub(most);
     Codeword {
-        width: pass_width + raise + 1 + width,
-        value: ((((pass_value + 1) << raise) - 1) << (width + 1)) + bytes,
+        width: least + raise + raise,
+        value: ((((pass_value + 1) << raise) - 1) << (most + raise + 2)) + bytes,
     }
 }
 

@@ -80,8 +80,7 @@ impl BitCount {
         count
     }
 
-    // Counts bytes that are full where so many bits more would be too many: four where that is enough and
-    // none of them is FF, else all.
+    // Counts the bytes that are full where so many bits more would be too many.
     fn with_room(self, width: u32) -> BitCount
         requires { width ≤ 50 }
         ensures counts { (bits : List Bool) → Counts self.whole self.held self.filled self.bits bits →
@@ -89,16 +88,22 @@ impl BitCount {
         ensures room { result.filled + width ≤ 64 }
         ensures bits { result.bits ≡ self.bits }
     {
-        if self.filled + width <= 64 {
+        if self.filled + width > 64 {
+            return self.emptied();
+        }
+        self
+    }
+
+    // Counts four bytes where so many are full and none of them is FF; where one is, every byte that is full.
+    fn emptied_by_word(self) -> BitCount
+        ensures counts { (bits : List Bool) → Counts self.whole self.held self.filled self.bits bits →
+            Counts result.whole result.held result.filled result.bits bits }
+        ensures bits { result.bits ≡ self.bits }
+    {
+        if self.filled < 32 {
             return self;
         }
-        if self.filled < 32 {
-            return self.emptied();
-        }
         let left = self.filled - 32;
-        if left + width > 64 {
-            return self.emptied();
-        }
         if !has_no_ff(word_at(self.held, left)) {
             return self.emptied();
         }
@@ -148,6 +153,9 @@ impl BitSink for BitCount {
     ghost bit_count = { λ s. s.bits };
 
     fn put_number(&mut self, width: u32, value: u64) {
-        *self = self.with_room(width).with_number(width, value);
+        *self = self
+            .with_room(width)
+            .with_number(width, value)
+            .emptied_by_word();
     }
 }

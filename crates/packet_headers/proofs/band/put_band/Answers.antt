@@ -1,4 +1,4 @@
-use Rattle.std.proofs.Common.{false, refl, ◌/◌, ◌%◌, [], ◌++◌, map, take, append_assoc, sym, ap, ◌∙◌, subst, arith}
+use Rattle.std.proofs.Common.{false, refl, ◌/◌, ◌%◌, [], ◌++◌, map, take, get_or, append_assoc, sym, ap, ◌∙◌, subst, arith}
 use Rattle.std.proofs.lemmas.List.{append-nil}
 use Rattle.packet_headers.specs.Words.{blocks_bits}
 use Rattle.packet_headers.specs.Written.{written_block, written_trees}
@@ -21,27 +21,15 @@ loop-place-init g c = record {
 
 pub put_block-requires-clause-top : goal.put_block-requires-clause-top
 put_block-requires-clause-top g c =
-    let a = entry_kept c.args.band.now _ c.loop-place.place _ (record { included = false; zero_planes = 0; passes = 0; len = 0 }) _ _ _ _ c.requires.band c.as_slice-entry-items.ensures.value c.loop-place-test.true
-    c.quarter_of-quarter.ensures.node c.quarter_of-quarter.ensures.below c.above_of-above.ensures.stand c.above_of-above.ensures.four c.at.ensures c.at-in-loop-place.ensures in
+    let a = entry_kept c.args.band.now _ c.loop-place.place _ (record { included = false; zero_planes = 0; passes = 0; len = 0 }) _ _ c.requires.band c.as_slice-entry-items.ensures.value c.loop-place-test.true
+    c.quarter_of-quarter.ensures.node c.quarter_of-quarter.ensures.below c.above_of-above.ensures.stand c.above_of-above.ensures.four in
     a.rises.top_le
 
 pub put_block-requires-clause-middle : goal.put_block-requires-clause-middle
 put_block-requires-clause-middle g c =
-    let a = entry_kept c.args.band.now _ c.loop-place.place _ (record { included = false; zero_planes = 0; passes = 0; len = 0 }) _ _ _ _ c.requires.band c.as_slice-entry-items.ensures.value c.loop-place-test.true
-    c.quarter_of-quarter.ensures.node c.quarter_of-quarter.ensures.below c.above_of-above.ensures.stand c.above_of-above.ensures.four c.at.ensures c.at-in-loop-place.ensures in
+    let a = entry_kept c.args.band.now _ c.loop-place.place _ (record { included = false; zero_planes = 0; passes = 0; len = 0 }) _ _ c.requires.band c.as_slice-entry-items.ensures.value c.loop-place-test.true
+    c.quarter_of-quarter.ensures.node c.quarter_of-quarter.ensures.below c.above_of-above.ensures.stand c.above_of-above.ensures.four in
     a.rises.middle_le
-
-pub put_block-requires-clause-top_includes : goal.put_block-requires-clause-top_includes
-put_block-requires-clause-top_includes g c =
-    let a = entry_kept c.args.band.now _ c.loop-place.place _ (record { included = false; zero_planes = 0; passes = 0; len = 0 }) _ _ _ _ c.requires.band c.as_slice-entry-items.ensures.value c.loop-place-test.true
-    c.quarter_of-quarter.ensures.node c.quarter_of-quarter.ensures.below c.above_of-above.ensures.stand c.above_of-above.ensures.four c.at.ensures c.at-in-loop-place.ensures in
-    λ h. a.rises.top_if (a.rises.middle_if h)
-
-pub put_block-requires-clause-middle_includes : goal.put_block-requires-clause-middle_includes
-put_block-requires-clause-middle_includes g c =
-    let a = entry_kept c.args.band.now _ c.loop-place.place _ (record { included = false; zero_planes = 0; passes = 0; len = 0 }) _ _ _ _ c.requires.band c.as_slice-entry-items.ensures.value c.loop-place-test.true
-    c.quarter_of-quarter.ensures.node c.quarter_of-quarter.ensures.below c.above_of-above.ensures.stand c.above_of-above.ensures.four c.at.ensures c.at-in-loop-place.ensures in
-    a.rises.middle_if
 
 pub loop-place-preserved : goal.loop-place-preserved
 loop-place-preserved g c =
@@ -50,7 +38,9 @@ loop-place-preserved g c =
     let a = entry_at c.args.band.now _ c.loop-place.place (c.loop-place.place % c.args.band.now.width) (c.loop-place.place / c.args.band.now.width) _ (record { included = false; zero_planes = 0; passes = 0; len = 0 }) _ _ c.requires.band
     c.as_slice-entry-items.ensures.value c.loop-place-test.true refl refl c.quarter_of-quarter.ensures.node c.quarter_of-quarter.ensures.below c.above_of-above.ensures.stand in
     let push = written_push c.args.band.now.entries.items _ c.loop-place.place (record { included = false; zero_planes = 0; passes = 0; len = 0 }) c.as_slice-entry-items.ensures.value c.loop-place-test.true in
-    let own = list_kept _ _ _ _ _ _ _ _ _ _ c.above_of-above.ensures.four c.quarter_of-quarter.ensures.below c.at.ensures c.at-in-loop-place.ensures
+    let own = list_kept c.loop-place.marks.visited c.loop-place.marks.beyond c.args.band.now.planes c.quarter_of-quarter.result
+    (get_or c.as_slice-entry-items.result.now c.loop-place.place (record { included = false; zero_planes = 0; passes = 0; len = 0 })) c.above_of-above.result.top c.above_of-above.result.middle _
+    c.above_of-above.ensures.four c.quarter_of-quarter.ensures.below
     (entry_bits words _ _ _ _ _ _ _ _ _ c.quarter_of-quarter.ensures.node c.quarter_of-quarter.ensures.below a.at c.above_of-above.ensures.stand k.marks a.rises a.includes a.zero_planes a.fresh a.zero_fresh) in
     record {
       marks = rw push (marks_further words _ _ _ _ _ (omega (arith, a.inside.column, c.requires.band.width)) (omega (arith, a.inside.row, c.requires.band.height)) c.quarter_of-quarter.ensures.node a.at a.rises.below

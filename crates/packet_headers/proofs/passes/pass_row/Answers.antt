@@ -9,6 +9,10 @@ pub returns-clause-fits : goal.returns-clause-fits
 unfolding pass_table
 returns-clause-fits c = (row_is c.args.passes _ c.requires.most).fits
 
+pub returns-clause-some : goal.returns-clause-some
+unfolding pass_table
+returns-clause-some c = (row_is c.args.passes _ c.requires.most).some
+
 pub returns-clause-few : goal.returns-clause-few
 unfolding pass_table
 returns-clause-few c = (row_is c.args.passes _ c.requires.most).few
@@ -17,6 +21,6 @@ pub returns-clause-short : goal.returns-clause-short
 unfolding pass_table
 returns-clause-short c = (row_is c.args.passes _ c.requires.most).short
 
-pub returns-clause-least : goal.returns-clause-least
+pub returns-clause-log : goal.returns-clause-log
 unfolding pass_table
-returns-clause-least c = (row_is c.args.passes _ c.requires.most).least
+returns-clause-log c = (row_is c.args.passes _ c.requires.most).log
