@@ -1,6 +1,6 @@
 -- What is kept of a band, entry by entry.
 use Rattle.std.proofs.Common.{◌≡◌, ℕ, suc, zero, ◌+◌, ◌*◌, ◌/◌, ◌%◌, ◌<◌, ◌≤◌, min, Bool, true, false, List, [], ◌∷◌, ◌++◌, length, map, take, get_or, refl, sym, ap, ◌∙◌, inl, inr, arith, leb, ltb, length-take, take_all}
-use Rattle.std.specs.Prelude.{All, if◌then◌else◌, slice_set, max}
+use Rattle.std.specs.Prelude.{All, ◌==◌, if◌then◌else◌, slice_set, max}
 use Rattle.std.proofs.lemmas.List.{take_more, map_push, length-map, get_or-map, get_or-set_same, get_or-set_other}
 use Rattle.std.proofs.lemmas.Bool.{cases_eq, eq-eqb, ne_eqb, le-leb, lt-leb, leb-true, lt-ltb, le-ltb, ltb-true, ltb-false, cases_lt}
 use Rattle.std.proofs.Math.Nat.{mod-lt, div-lt_iff_lt-mul, mul_comm}
@@ -15,10 +15,9 @@ use Rattle.packet_headers.specs.Written.{inclusion_value, zero_plane_value, writ
 use Rattle.packet_headers.specs.WriterState.{Includes, above_at, kept_of, mark_of, AboveStands, MarksStand, TopFirst}
 use Rattle.packet_headers.proofs.MarkLemmas.{among_quarter, among_top}
 
--- the least zero planes of these entries are kept, of the node above the middle ones and of these
-pub record LeastSoFar (width planes : ℕ) (entries : List Entry) (top : ℕ) (middle : List ℕ) : Type 0 where
-  pub top_least : top ≡ least width (map (zero_plane_value planes) entries) 20
-  pub middle_least : (q : ℕ) → q < 4 → get_or middle q 0 ≡ least width (map (zero_plane_value planes) entries) (16 + q)
+-- of the middle nodes the least zero planes of these entries are kept
+pub record LeastSoFar (width planes : ℕ) (entries : List Entry) (middle : List ℕ) : Type 0 where
+  pub kept : (q : ℕ) → q < 4 → get_or middle q 0 ≡ least width (map (zero_plane_value planes) entries) (16 + q)
 
 -- the least number with one entry more
 least_one : (width : ℕ) (f : Entry → ℕ) (entries : List Entry) (entry : Entry) (x y n : ℕ) → x ≡ length entries % width → y ≡ length entries / width
@@ -37,26 +36,25 @@ four_same n (suc (suc zero)) h = refl
 four_same n (suc (suc (suc zero))) h = refl
 four_same n (suc (suc (suc (suc q)))) h = absurd (omega arith)
 
-pub least_none : (width planes : ℕ) → LeastSoFar width planes [] 255 (255 ∷ 255 ∷ 255 ∷ 255 ∷ [])
+pub least_none : (width planes : ℕ) → LeastSoFar width planes [] (255 ∷ 255 ∷ 255 ∷ 255 ∷ [])
 unfolding least_from
-least_none width planes = record { top_least = refl; middle_least = λ q h. four_same 255 q h }
+least_none width planes = record { kept = λ q h. four_same 255 q h }
 
-pub least_more : (width planes : ℕ) (entries : List Entry) (entry : Entry) (x y p : ℕ) (top top' : ℕ) (middle : List ℕ) (own : ℕ)
+pub least_more : (width planes : ℕ) (entries : List Entry) (entry : Entry) (x y p : ℕ) (middle : List ℕ) (own : ℕ)
     → x ≡ length entries % width → y ≡ length entries / width → x ≤ 3 → y ≤ 3 → p < 4 → length middle ≡ 4 → middle_node x y ≡ 16 + p
-    → LeastSoFar width planes entries top middle → top' ≡ min (zero_plane_value planes entry) top → own ≡ min (zero_plane_value planes entry) (get_or middle p 0)
-    → LeastSoFar width planes (entries ++ entry ∷ []) top' (slice_set middle p own)
-least_more width planes entries entry x y p top top' middle own ex ey hx hy hp l m k t o = record {
-  top_least = rw (t, k.top_least, least_one width (zero_plane_value planes) entries entry x y 20 ex ey, among_top 0 x y) refl;
-  middle_least = λ q hq. elim (cases_eq p q) [
+    → LeastSoFar width planes entries middle → own ≡ min (zero_plane_value planes entry) (get_or middle p 0)
+    → LeastSoFar width planes (entries ++ entry ∷ []) (slice_set middle p own)
+least_more width planes entries entry x y p middle own ex ey hx hy hp l m k o = record {
+  kept = λ q hq. elim (cases_eq p q) [
     | inl e ↦
         let own_is : get_or (slice_set middle p own) q 0 ≡ own = sym (ap (λ r. get_or (slice_set middle p own) r 0) e) ∙ get_or-set_same middle p own _ (omega arith) in
         let among = among_quarter 1 x y p q hx hy hq m ∙ eq-eqb p q e in
         rw (own_is, least_one width (zero_plane_value planes) entries entry x y (16 + q) ex ey, among)
-        (o ∙ ap (λ r. min (zero_plane_value planes entry) (get_or middle r 0)) e ∙ ap (λ r. min (zero_plane_value planes entry) r) (k.middle_least q hq))
+        (o ∙ ap (λ r. min (zero_plane_value planes entry) (get_or middle r 0)) e ∙ ap (λ r. min (zero_plane_value planes entry) r) (k.kept q hq))
     | inr ne ↦
         let other : get_or (slice_set middle p own) q 0 ≡ get_or middle q 0 = get_or-set_other middle p q own _ (λ k. ne (sym k)) in
         let among = among_quarter 1 x y p q hx hy hq m ∙ ne_eqb p q ne in
-        rw (other, least_one width (zero_plane_value planes) entries entry x y (16 + q) ex ey, among) (k.middle_least q hq)
+        rw (other, least_one width (zero_plane_value planes) entries entry x y (16 + q) ex ey, among) (k.kept q hq)
   ];
 }
 
@@ -114,6 +112,34 @@ inside width height place x y h ex ey =
       at = rw (ex, ey) (div-add-mod' place width);
     }
 
+-- the node above the middle ones has the least of their numbers
+four_least : (p v a b c d : ℕ) → p < 4 → min (min (min (if p == 0 then min v a else a) (if p == 1 then min v b else b)) (if p == 2 then min v c else c)) (if p == 3 then min v d else d)
+    ≡ min v (min (min (min a b) c) d)
+four_least zero v a b c d h = omega arith
+four_least (suc zero) v a b c d h = omega arith
+four_least (suc (suc zero)) v a b c d h = omega arith
+four_least (suc (suc (suc zero))) v a b c d h = omega arith
+four_least (suc (suc (suc (suc p)))) v a b c d h = absurd (omega arith)
+
+least_top : (width height place : ℕ) (values : List ℕ) → width ≤ 4 → height ≤ 4 → place + length values ≡ width * height
+    → min (min (min (least_from width place values 16) (least_from width place values 17)) (least_from width place values 18)) (least_from width place values 19) ≡ least_from width place values 20
+unfolding least_from
+least_top width height place [] w h e = refl
+least_top width height place (v ∷ values) w h e =
+    let i = inside width height place (place % width) (place / width) (omega arith) refl refl in
+    let x : place % width ≤ 3 = (let c = i.column in omega arith) in
+    let y : place / width ≤ 3 = (let r = i.row in omega arith) in
+    let p : 2 * (place / width / 2) + place % width / 2 < 4 = omega arith in
+    let rest = least_top width height (place + 1) values w h (omega arith) in
+    rw (
+      among_quarter 1 (place % width) (place / width) (2 * (place / width / 2) + place % width / 2) 0 x y (omega arith) refl,
+      among_quarter 1 (place % width) (place / width) (2 * (place / width / 2) + place % width / 2) 1 x y (omega arith) refl,
+      among_quarter 1 (place % width) (place / width) (2 * (place / width / 2) + place % width / 2) 2 x y (omega arith) refl,
+      among_quarter 1 (place % width) (place / width) (2 * (place / width / 2) + place % width / 2) 3 x y (omega arith) refl,
+      among_top 0 (place % width) (place / width),
+    )
+    (four_least (2 * (place / width / 2) + place % width / 2) v _ _ _ _ p ∙ ap (λ r. min v r) rest)
+
 pub next_index : (width height place x y : ℕ) → Inside width height place x y → y * width + x + 1 ≡ place + 1
 next_index width height place x y i = ap (λ n. n + 1) i.at
 
@@ -160,16 +186,16 @@ above_zero band can e =
       middle_least = λ q h. rw (e, kept_at band.planes (0 ∷ 0 ∷ 0 ∷ 0 ∷ []) q h) (four_same 0 q h);
     }
 
-module _ (band : PacketBand) (can : CanWriteBand band) (top : ℕ) (middle : List ℕ) (four : length middle ≡ 4) (k : LeastSoFar band.width band.planes band.entries.items top middle) where
+module _ (band : PacketBand) (can : CanWriteBand band) (middle : List ℕ) (four : length middle ≡ 4) (k : LeastSoFar band.width band.planes band.entries.items middle) where
   node_includes : (m n : ℕ) → m ≡ least band.width (map (zero_plane_value band.planes) band.entries.items) n
       → Includes (ltb m band.planes) (least band.width (map inclusion_value band.entries.items) n)
   node_includes m n e = rw e (includes_least band.width band.planes 0 band.entries.items n can.planes can.entries)
 
   middle_includes : (q : ℕ) → q < 4 → Includes (kept_of (map (above_at band.planes) middle) q).included (least band.width (map inclusion_value band.entries.items) (16 + q))
-  middle_includes q h = rw (kept_at band.planes middle q (omega arith)) (node_includes (get_or middle q 0) (16 + q) (k.middle_least q h))
+  middle_includes q h = rw (kept_at band.planes middle q (omega arith)) (node_includes (get_or middle q 0) (16 + q) (k.kept q h))
 
   middle_least : (q : ℕ) → q < 4 → (kept_of (map (above_at band.planes) middle) q).zero_planes ≡ least band.width (map (zero_plane_value band.planes) band.entries.items) (16 + q)
-  middle_least q h = rw (kept_at band.planes middle q (omega arith)) (k.middle_least q h)
+  middle_least q h = rw (kept_at band.planes middle q (omega arith)) (k.kept q h)
 
   pub above_one : levels_above band.width band.height ≡ 1 → AboveStands (written_trees band) (above_at band.planes 0) (map (above_at band.planes) middle)
   above_one e =
@@ -181,18 +207,25 @@ module _ (band : PacketBand) (can : CanWriteBand band) (top : ℕ) (middle : Lis
         middle_least = λ q h. rw e (middle_least q h);
       }
 
-  pub above_two : levels_above band.width band.height ≡ 2 → AboveStands (written_trees band) (above_at band.planes top) (map (above_at band.planes) middle)
-  above_two e = record {
-    top_includes = rw e (node_includes top 20 k.top_least);
-    top_least = rw e k.top_least;
+  top_least : (top : ℕ) → top ≡ min (min (min (get_or middle 0 0) (get_or middle 1 0)) (get_or middle 2 0)) (get_or middle 3 0)
+      → top ≡ least band.width (map (zero_plane_value band.planes) band.entries.items) 20
+  top_least top e =
+      e ∙ rw (k.kept 0 (omega arith), k.kept 1 (omega arith), k.kept 2 (omega arith), k.kept 3 (omega arith))
+      (least_top band.width band.height 0 (map (zero_plane_value band.planes) band.entries.items) can.width can.height (omega (arith, length-map band.entries.items (zero_plane_value band.planes), can.count)))
+
+  pub above_two : (top : ℕ) → levels_above band.width band.height ≡ 2 → top ≡ min (min (min (get_or middle 0 0) (get_or middle 1 0)) (get_or middle 2 0)) (get_or middle 3 0)
+      → AboveStands (written_trees band) (above_at band.planes top) (map (above_at band.planes) middle)
+  above_two top e t = record {
+    top_includes = rw e (node_includes top 20 (top_least top t));
+    top_least = rw e (top_least top t);
     middle_includes = λ q h. rw e (middle_includes q h);
     middle_least = λ q h. rw e (middle_least q h);
   }
 
 -- at the end all entries are taken
-pub least_all : (band : PacketBand) (items : List Entry) (n : ℕ) (top : ℕ) (middle : List ℕ) → items ≡ band.entries.items → length items ≤ n
-    → LeastSoFar band.width band.planes (take n band.entries.items) top middle → LeastSoFar band.width band.planes band.entries.items top middle
-least_all band items n top middle e h k = let l = ap length e in rw (take_all n band.entries.items (omega arith)) at k
+pub least_all : (band : PacketBand) (items : List Entry) (n : ℕ) (middle : List ℕ) → items ≡ band.entries.items → length items ≤ n
+    → LeastSoFar band.width band.planes (take n band.entries.items) middle → LeastSoFar band.width band.planes band.entries.items middle
+least_all band items n middle e h k = let l = ap length e in rw (take_all n band.entries.items (omega arith)) at k
 
 -- the node that is kept for a quarter
 pub kept_is : (planes : ℕ) (middle : List ℕ) (q : ℕ) → length middle ≡ 4 → q < 4 → kept_of (map (above_at planes) middle) q ≡ above_at planes (get_or middle q 0)

@@ -36,12 +36,10 @@ fn above_of(band: &PacketBand) -> BandAbove
     ensures stand { AboveStands (written_trees band.now) (above_at band.now.planes result.top) (map (above_at band.now.planes) result.middle) }
     ensures four { length result.middle ≡ 4 }
 {
-    let mut top = u8::MAX;
     let mut middle = [u8::MAX; 4];
     for (place, entry) in band.entries.as_slice().iter().enumerate() {
         let quarter = quarter_of(band.width, band.height, place);
         let zero_planes = leaf_zero_planes(entry, band.planes);
-        top = zero_planes.min(top);
         middle[quarter] = zero_planes.min(middle[quarter]);
     }
     let side = band.width.max(band.height);
@@ -54,6 +52,7 @@ fn above_of(band: &PacketBand) -> BandAbove
     if side <= 2 {
         return BandAbove { top: 0, middle };
     }
+    let top = middle[0].min(middle[1]).min(middle[2]).min(middle[3]);
     BandAbove { top, middle }
 }
 

@@ -67,6 +67,7 @@ impl BitCount {
     }
 
     // Counts every byte that is full.
+    #[cold]
     fn emptied(self) -> BitCount
         ensures counts { (bits : List Bool) → Counts self.whole self.held self.filled self.bits bits →
             Counts result.whole result.held result.filled result.bits bits }

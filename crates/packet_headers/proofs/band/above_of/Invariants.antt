@@ -4,6 +4,6 @@ use Rattle.packet_headers.proofs.band.above_of.Given as goal
 
 abbrev pub invariant-loop-place : goal.invariant-loop-place
 invariant-loop-place l = record {
-  kept : LeastSoFar l.band.width l.band.planes (take l.place l.band.entries.items) l.top l.middle;
+  kept : LeastSoFar l.band.width l.band.planes (take l.place l.band.entries.items) l.middle;
   four : length l.middle ≡ 4;
 }
