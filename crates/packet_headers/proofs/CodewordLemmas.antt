@@ -230,3 +230,30 @@ zeros_small width value k h few =
     let b = join_below value width 1 (k + 1) h (one_fits k) in
     let p : 2 ^ (width + (k + 1)) ≤ 2 ^ 50 = pow_mono few in
     omega arith
+
+-- a 1, zeros and a 1
+pub one_whole : (z : ℕ) → z ≤ 23 → 2 * 2 ^ z % 18446744073709551616 + 1 ≡ 1 * 2 ^ (z + 1) + 1
+one_whole z h =
+    let p : 2 ^ z ≤ 2 ^ 23 = pow_mono h in
+    let q : 2 ^ (z + 1) ≡ 2 ^ z * 2 = rw add-one (pow-suc 2 z) in
+    omega arith
+
+pub one_small : (z : ℕ) → z ≤ 23 → 1 * 2 ^ (z + 1) + 1 < 2 ^ 25
+one_small z h =
+    let p : 2 ^ z ≤ 2 ^ 23 = pow_mono h in
+    let q : 2 ^ (z + 1) ≡ 2 ^ z * 2 = rw add-one (pow-suc 2 z) in
+    omega arith
+
+pub one_fits_in : (z : ℕ) → 1 * 2 ^ (z + 1) + 1 < 2 ^ (z + 2)
+one_fits_in z =
+    let e : 1 + (z + 1) ≡ z + 2 = omega arith in
+    rw e at (join_below 1 1 1 (z + 1) (omega arith) (one_fits z))
+
+one_true : number 1 1 ≡ true ∷ []
+unfolding number
+one_true = refl
+
+pub one_bits : (z : ℕ) → number (z + 2) (1 * 2 ^ (z + 1) + 1) ≡ true ∷ number (z + 1) 1
+one_bits z =
+    let e : z + 2 ≡ 1 + (z + 1) = omega arith in
+    ap (λ k. number k (1 * 2 ^ (z + 1) + 1)) e ∙ number-join 1 (z + 1) 1 1 (one_fits z) ∙ ap (λ r. r ++ number (z + 1) 1) one_true

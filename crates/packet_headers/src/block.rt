@@ -115,7 +115,7 @@ fn included_codeword(
     ensures beyond { Marked marks.old.beyond quarter marks.new.beyond }
 {
     if marks.beyond.middle[quarter] {
-        return Codeword::ones(1).with_zeros_if(true, zero_planes - middle);
+        return Codeword::one_and_zeros(zero_planes - middle);
     }
     let ones = visited_codeword(&mut marks.visited, quarter);
     zero_plane_codeword(ones, &mut marks.beyond, quarter, top, middle, zero_planes)

@@ -1,5 +1,5 @@
 // The codewords of a block's numbers.
-ghost use Rattle.std.specs.Prelude.{◌≡◌, ◌+◌, ◌<◌, ◌≤◌, ◌^◌, ◌*◌, ◌++◌, [], replicate, true};
+ghost use Rattle.std.specs.Prelude.{◌≡◌, ◌+◌, ◌<◌, ◌≤◌, ◌^◌, ◌*◌, ◌++◌, [], ◌∷◌, replicate, true};
 ghost use Rattle.tag_trees.specs.Bits.{number};
 ghost use Rattle.packet_headers.specs.Codewords.{pass_bits, length_bits, least_raise};
 ghost use Rattle.packet_headers.specs.WriterState.{bit_if, zeros_if};
@@ -34,6 +34,20 @@ impl Codeword {
         Codeword {
             width,
             value: (1 << width) - 1,
+        }
+    }
+
+    // A 1, so many zeros and a 1.
+    pub fn one_and_zeros(zeros: u8) -> Codeword
+        requires { zeros ≤ 23 }
+        ensures bits { number result.width result.value ≡ true ∷ number (zeros + 1) 1 }
+        ensures fits { result.value < 2 ^ result.width }
+        ensures width { result.width ≡ zeros + 2 }
+    {
+        let zeros = u32::from(zeros);
+        Codeword {
+            width: zeros + 2,
+            value: (2 << zeros) + 1,
         }
     }
 
