@@ -1,7 +1,7 @@
 -- What the writer of a band keeps of the nodes above the leaves.
-use Rattle.std.specs.Prelude.{◌≡◌, ℕ, suc, zero, ◌+◌, ◌-◌, ◌<◌, ◌≤◌, Bool, true, false, not, ◌&&◌, ◌==◌, nat_lt, if◌then◌else◌, List, [], ◌∷◌, ◌++◌, get_or}
+use Rattle.std.specs.Prelude.{◌≡◌, ℕ, suc, zero, ◌+◌, ◌-◌, ◌*◌, ◌/◌, ◌%◌, ◌<◌, ◌≤◌, Bool, true, false, not, ◌&&◌, ◌==◌, nat_lt, if◌then◌else◌, List, [], ◌∷◌, ◌++◌, get_or}
 use Rattle.tag_trees.specs.Bits.{number, bit_value}
-use Rattle.tag_trees.specs.TagTree.{levels_above, largest}
+use Rattle.tag_trees.specs.TagTree.{middle_node, levels_above, largest}
 use Rattle.packet_headers.specs.declared.entry.Entry.{Entry}
 use Rattle.packet_headers.specs.declared.above.Above.{Above}
 use Rattle.packet_headers.specs.declared.above.Marks.{Marks}
@@ -74,6 +74,11 @@ zero_plane_list beyond top seen middle zeros = zeros_if (not beyond) top ++ (zer
 -- a node of a band of so many planes, by its least zero planes: those of an included block are fewer than the planes
 abbrev pub above_at : ℕ → ℕ → Above
 above_at planes least = record { included = nat_lt least planes; zero_planes = least }
+
+-- the quarters of the places of a band of this width: which middle node is above a place
+pub record AreQuarters (width : ℕ) (quarters : List ℕ) : Type 0 where
+  pub node : (place : ℕ) → place < 4 * width → middle_node (place % width) (place / width) ≡ 16 + get_or quarters place 0
+  pub below : (place : ℕ) → place < 4 * width → get_or quarters place 0 < 4
 
 -- a node that is kept for a quarter; there are four
 abbrev pub kept_of : List Above → ℕ → Above

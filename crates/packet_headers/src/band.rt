@@ -8,7 +8,7 @@ use crate::above::Marks;
 use crate::block::{BandMarks, put_block};
 use crate::entry::Entry;
 use crate::packet::PacketBand;
-use crate::place::quarter_of;
+use crate::place::{quarter_of, quarters_of};
 use tag_trees::BitSink;
 
 // The least zero planes of the nodes above the leaves of a band's tag trees: of the one above the middle ones,
@@ -36,9 +36,10 @@ fn above_of(band: &PacketBand) -> BandAbove
     ensures stand { AboveStands (written_trees band.now) (above_at band.now.planes result.top) (map (above_at band.now.planes) result.middle) }
     ensures four { length result.middle ≡ 4 }
 {
+    let quarters = quarters_of(band.width);
     let mut middle = [u8::MAX; 4];
     for (place, entry) in band.entries.as_slice().iter().enumerate() {
-        let quarter = quarter_of(band.width, band.height, place);
+        let quarter = quarter_of(quarters, band.width, band.height, place);
         let zero_planes = leaf_zero_planes(entry, band.planes);
         middle[quarter] = zero_planes.min(middle[quarter]);
     }
@@ -84,8 +85,9 @@ pub fn put_band<S: BitSink>(band: &PacketBand, out: &mut S)
 {
     let above = above_of(band);
     let mut marks = fresh_marks(band);
+    let quarters = quarters_of(band.width);
     for (place, entry) in band.entries.as_slice().iter().enumerate() {
-        let quarter = quarter_of(band.width, band.height, place);
+        let quarter = quarter_of(quarters, band.width, band.height, place);
         put_block(
             &mut marks,
             quarter,
