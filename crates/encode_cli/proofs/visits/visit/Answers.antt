@@ -55,8 +55,12 @@ returns-in_err-refuse-in_default-clause-err g c =
 pub returns-in_err-refuse-in_default-clause-cause : goal.returns-in_err-refuse-in_default-clause-cause
 returns-in_err-refuse-in_default-clause-cause g c =
     let p = err_from_is_err_and c.from_residual-in_err-refuse-in_default.result c.from_residual-in_err-refuse-in_default.ensures.1 in
-    let same = none_counted c.in-Err-read_frame.refusal _ _ c.in_default.not-Source c.in-Err-read_frame.ensures.cause ∙ c.in-Ok.ensures.cause in
-    rw (p.1, p.2) (stops_too _ _ _ _ _ c.in_err-refuse-in_default.field-0.0 same c.in_err-refuse-in_default.ensures.cause)
+    let faults = g.F.Frames.faults in
+    let said = g.S.Report.faults in
+    let same = none_counted c.in-Err-read_frame.refusal (faults c.begin.new.self) (faults c.read_frame.new.f) c.in_default.not-Source c.in-Err-read_frame.ensures.cause
+    ∙ c.in-Ok.ensures.cause in
+    rw (p.1, p.2) (stops_too (faults c.args.frames.now) (faults c.read_frame.new.f) (g.O.Outputs.faults c.args.outputs.now) (said c.args.report.now) (said c.refuse.new.report)
+    c.in_err-refuse-in_default.field-0.0 same c.in_err-refuse-in_default.ensures.cause)
 
 pub returns-in_ok-refuse-in_default-clause-ok : goal.returns-in_ok-refuse-in_default-clause-ok
 returns-in_ok-refuse-in_default-clause-ok g c =
@@ -75,5 +79,7 @@ returns-in_ok-refuse-in_default-clause-ok g c =
 
 pub returns-in_ok-refuse-in_default-clause-cause : goal.returns-in_ok-refuse-in_default-clause-cause
 returns-in_ok-refuse-in_default-clause-cause g c =
-    let same = none_counted c.in-Err-read_frame.refusal _ _ c.in_default.not-Source c.in-Err-read_frame.ensures.cause ∙ c.in-Ok.ensures.cause in
-    (same, refl, c.in_ok-refuse-in_default.ensures.cause.2)
+    let faults = g.F.Frames.faults in
+    let same = none_counted c.in-Err-read_frame.refusal (faults c.begin.new.self) (faults c.read_frame.new.f) c.in_default.not-Source c.in-Err-read_frame.ensures.cause
+    ∙ c.in-Ok.ensures.cause in
+    (same, refl {a = g.O.Outputs.faults c.args.outputs.now}, c.in_ok-refuse-in_default.ensures.cause.2)
