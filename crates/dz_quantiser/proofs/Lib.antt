@@ -1,2 +1,3 @@
 mod BuiltIn
 mod Quotient
+mod Usable

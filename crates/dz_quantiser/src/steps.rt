@@ -1,10 +1,10 @@
 // The steps of the bands.
-ghost use Rattle.std.specs.Prelude.{ℕ, ◌≡◌, ◌≢◌, ◌+◌, ◌*◌, ◌<◌, ◌≤◌};
+ghost use Rattle.std.specs.Prelude.{ℕ, ◌≡◌, ◌≢◌, ◌+◌, ◌*◌, ◌<◌, ◌≤◌, ◌↔◌, IsTrue};
 ghost use Rattle.arrayvec.specs.ArrayVec.{array_vec_len};
 ghost use Rattle.cine_nums.specs.Levels.{band_level};
 ghost use Rattle.cine_nums.specs.Profile.{guard_of, levels_of};
 ghost use Rattle.cine_nums.specs.declared.orient.Orient.{Orient};
-ghost use Rattle.dz_quantiser.specs.Bands.{band_number, range_of, planes_of, built_in_step, built_in_bands, step_of, AreUsable};
+ghost use Rattle.dz_quantiser.specs.Bands.{band_number, range_of, planes_of, built_in_step, built_in_bands, step_of, IsUsable, AreUsable};
 
 use arrayvec::ArrayVec;
 use cine_nums::{Orient, Profile};
@@ -66,6 +66,45 @@ impl Steps {
     {
         self.bands[usize::from(band_number(levels, res, orient))]
     }
+
+    /// Whether [`index`](crate::index) takes these steps for a component of `levels` levels: there is one
+    /// step a band (ISO/IEC 15444-1, Annex A.6.4), and each has an exponent of at least the band's
+    /// [`range`] in bits, a mantissa of 11 bits, and with the guard bits at most 20 magnitude bit planes
+    /// (Annex E.1), so that no exponent is above 21.
+    pub fn are_usable(&self, levels: u8) -> bool
+        requires { levels ≤ 6 }
+        ensures { IsTrue result ↔ AreUsable levels self.now }
+    {
+        if self.bands.len() != 3 * usize::from(levels) + 1 {
+            return false;
+        }
+        if !self.is_usable_at(levels, 0, Orient::LL) {
+            return false;
+        }
+        for res in 1..levels + 1 {
+            let all = self.is_usable_at(levels, res, Orient::HL)
+                && self.is_usable_at(levels, res, Orient::LH)
+                && self.is_usable_at(levels, res, Orient::HH);
+            if !all {
+                return false;
+            }
+        }
+        true
+    }
+
+    /// Whether the step of a band is one that [`index`](crate::index) takes.
+    fn is_usable_at(&self, levels: u8, res: u8, orient: Orient) -> bool
+        requires levels { levels ≤ 6 }
+        requires count { array_vec_len self.now.bands ≡ 3 * levels + 1 }
+        requires res { res ≤ levels }
+        requires lowest { res ≡ 0 → orient ≡ Orient.LL }
+        requires above { orient ≡ Orient.LL → res ≡ 0 }
+        ensures { IsTrue result ↔ IsUsable self.now.guard (range_of orient) (step_of self.now res orient) }
+    {
+        let step = self.step(levels, res, orient);
+        let planes = (u16::from(self.guard) + u16::from(step.exponent)).saturating_sub(1);
+        range(orient) <= step.exponent && step.mantissa < 2048 && planes <= 20
+    }
 }
 
 /// The built-in step of a band of a level.
@@ -116,4 +155,22 @@ pub fn planes(guard: u8, step: BandStep) -> u8
     ensures { result ≡ planes_of guard step.exponent }
 {
     (guard + step.exponent).saturating_sub(1)
+}
+
+#[cfg(test)]
+mod tests {
+    use super::*;
+
+    #[test]
+    fn steps_are_usable_where_each_band_has_one_in_range(rt: HostRuntime) {
+        let steps = Steps::built_in(Profile::TwoK);
+        assert!(rt; steps.are_usable(5));
+        assert!(rt; !steps.are_usable(4));
+        let mut bands = ArrayVec::new();
+        bands.push(BandStep {
+            exponent: 11,
+            mantissa: 0,
+        });
+        assert!(rt; !Steps { guard: 1, bands }.are_usable(0));
+    }
 }
