@@ -22,3 +22,4 @@ mod sides;
 
 pub use geometry::Geometry;
 pub use places::{BlockId, BlockRange, Rect};
+pub use sides::precinct_side;

@@ -13,16 +13,20 @@ pub(crate) fn halved_up(samples: u32, halvings: u8) -> u32
     (samples + (step - 1)) >> halvings
 }
 
+/// One side of a precinct of resolution `res`, in samples of the resolution: 128 at resolution 0, and
+/// 256 above (ISO/IEC 15444-1, B.6).
+pub fn precinct_side(res: u8) -> u32
+    ensures { result ≡ precinct_side res }
+{
+    if res == 0 { 128 } else { 256 }
+}
+
 // How many precincts of resolution `res` lie along so many of its samples.
 pub(crate) fn precincts_along(samples: u32, res: u8) -> u32
     requires { samples ≤ 4096 }
     ensures { result ≡ div_up samples (precinct_side res) }
 {
-    if res == 0 {
-        samples.div_ceil(128)
-    } else {
-        samples.div_ceil(256)
-    }
+    samples.div_ceil(precinct_side(res))
 }
 
 // How many code blocks lie along so many samples of a band.

@@ -3,14 +3,14 @@ ghost use Rattle.std.specs.Prelude.{◌≡◌};
 ghost use Rattle.packet_order.specs.Order.{place_of, comes_before};
 
 use crate::packet::PacketId;
-use band_geometry::Geometry;
+use band_geometry::{Geometry, precinct_side};
 
 // The place of a packet's precinct on the reference grid, across and down.
 fn place(geometry: &Geometry, id: PacketId) -> (u64, u64)
     ensures across { result.0 ≡ place_of geometry.now.levels id.res id.px }
     ensures down { result.1 ≡ place_of geometry.now.levels id.res id.py }
 {
-    let side: u64 = if id.res == 0 { 128 } else { 256 };
+    let side = u64::from(precinct_side(id.res));
     let scale = 1u64 << geometry.levels.saturating_sub(id.res);
     (
         u64::from(id.px) * side * scale,
