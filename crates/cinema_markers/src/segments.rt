@@ -10,6 +10,19 @@ use arrayvec::ArrayVec;
 use cine_nums::Profile;
 use dz_quantiser::{BandStep, Steps};
 
+// The markers (Table A.2).
+const SOC: u16 = 0xFF4F;
+
+const SIZ: u16 = 0xFF51;
+
+const COD: u16 = 0xFF52;
+
+const QCD: u16 = 0xFF5C;
+
+const POC: u16 = 0xFF5F;
+
+const TLM: u16 = 0xFF55;
+
 /// The progression order component, position, resolution, layer (Table A.16).
 const CPRL: u8 = 4;
 
@@ -29,21 +42,24 @@ pub fn push_siz(out: &mut ArrayVec<u8, 192>, profile: Profile, width: u32, heigh
     ensures items { out.new.items ≡ out.old.items ++ segment soc ++ segment (siz profile width height) }
     ensures len { array_vec_len out.new ≡ array_vec_len out.old + 51 }
 {
-    push_fields(out, &[Field::Short(0xFF4F)]);
+    push_fields(out, &[Field::Short(SOC)]);
     push_fields(
         out,
         &[
-            Field::Short(0xFF51),
+            Field::Short(SIZ),
             Field::Short(47),
             Field::Short(rsiz(profile)),
+            // the image
             Field::Long(width),
             Field::Long(height),
             Field::Long(0),
             Field::Long(0),
+            // the one tile
             Field::Long(width),
             Field::Long(height),
             Field::Long(0),
             Field::Long(0),
+            // three components: 12 bits, a sample at each place
             Field::Short(3),
             Field::Byte(11),
             Field::Byte(1),
@@ -81,12 +97,14 @@ pub fn push_cod(out: &mut ArrayVec<u8, 192>, levels: u8, flag: u8)
     push_fields(
         out,
         &[
-            Field::Short(0xFF52),
+            Field::Short(COD),
             Field::Short(13 + u16::from(levels)),
+            // precincts are given; the order, one layer, the component transform
             Field::Byte(1),
             Field::Byte(CPRL),
             Field::Short(1),
             Field::Byte(flag),
+            // the levels; code blocks of 32 by 32, no variant of their coding; the 9-7 wavelet
             Field::Byte(levels),
             Field::Byte(3),
             Field::Byte(3),
@@ -120,7 +138,7 @@ pub fn push_qcd(out: &mut ArrayVec<u8, 192>, levels: u8, steps: &Steps)
     push_fields(
         out,
         &[
-            Field::Short(0xFF5C),
+            Field::Short(QCD),
             Field::Short(5 + 6 * u16::from(levels)),
             Field::Byte(steps.guard * 32 + 2),
         ],
@@ -142,7 +160,7 @@ pub fn push_poc(out: &mut ArrayVec<u8, 192>, profile: Profile, levels: u8)
         Profile::FourK => push_fields(
             out,
             &[
-                Field::Short(0xFF5F),
+                Field::Short(POC),
                 Field::Short(16),
                 Field::Byte(0),
                 Field::Byte(0),
@@ -171,7 +189,7 @@ pub fn push_tlm(out: &mut ArrayVec<u8, 192>, parts: &[u32])
     push_fields(
         out,
         &[
-            Field::Short(0xFF55),
+            Field::Short(TLM),
             Field::Short(4 + 5 * parts.len() as u16),
             Field::Byte(0),
             Field::Byte(0x50),
