@@ -1,6 +1,6 @@
 -- The writer's words of a packet spell it.
 use Rattle.std.proofs.Common.{◌≡◌, ℕ, ◌+◌, ◌-◌, ◌*◌, ◌/◌, ◌%◌, ◌^◌, ◌<◌, ◌≤◌, Bool, true, false, List, [], ◌∷◌, ◌++◌, length, map, get_or, refl, sym, ap, subst, ◌∙◌, arith, append_assoc}
-use Rattle.std.specs.Prelude.{◌||◌, All}
+use Rattle.std.specs.Prelude.{All}
 use Rattle.std.specs.List.{list_any}
 use Rattle.std.proofs.lemmas.List.{length-map, length_push}
 use Rattle.std.proofs.Common.{length-append}
@@ -21,6 +21,7 @@ use Rattle.tag_trees.specs.Stuffing.{Stuffs}
 use Rattle.packet_headers.proofs.BandLemmas.{inside}
 use Rattle.packet_headers.proofs.EntryLemmas.{leaf_value}
 use Rattle.packet_headers.proofs.CodewordLemmas.{length_widths}
+use Rattle.packet_headers.proofs.MarkLemmas.{or_none}
 
 -- the number of a leaf is its entry's
 leaf_is : (band : PacketBand) (f : Entry → ℕ) (place : ℕ) (entry d : Entry) → CanWriteBand band → place < length band.entries.items → entry ≡ get_or band.entries.items place d
@@ -34,10 +35,6 @@ len_fits : (passes len : ℕ) → 1 ≤ passes → passes ≤ 164 → len ≤ 13
 len_fits passes len some most h =
     let w = length_widths passes len (2 + bit_len passes) (bit_len len - (2 + bit_len passes)) (2 + bit_len passes + (bit_len len - (2 + bit_len passes))) some most h refl refl refl in
     rw (← w.raise_is, ← w.width_is) w.fits
-
-or_none : (a b : Bool) → (a || b) ≡ false → (a ≡ false) × (b ≡ false)
-or_none true b h = absurd (cc)
-or_none false b h = (refl, h)
 
 -- an entry at its place
 entry_fits : (band : PacketBand) (place : ℕ) (entry d : Entry) → CanWriteBand band → place < length band.entries.items → entry ≡ get_or band.entries.items place d

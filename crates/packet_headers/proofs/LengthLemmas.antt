@@ -7,11 +7,8 @@ use Rattle.std.proofs.Math.Nat.{pow-suc, mul-le-mul_right}
 use Rattle.tag_trees.specs.Bits.{bit_value, value_from, value, width_behind}
 use Rattle.tag_trees.specs.Stuffing.{closing, packed_from, packed}
 use Rattle.tag_trees.specs.BitState.{Counts}
+use Rattle.tag_trees.proofs.BitLemmas.{bit_le}
 use Rattle.packet_headers.specs.Words.{PacketWords, bands_bits, header_words}
-
-bit_le : (b : Bool) → bit_value b ≤ 1
-bit_le true = omega arith
-bit_le false = omega arith
 
 value_below : (n : ℕ) (bits : List Bool) → value_from n bits < (n + 1) * 2 ^ length bits
 unfolding value_from

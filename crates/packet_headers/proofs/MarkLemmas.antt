@@ -40,7 +40,7 @@ pub among_top : (levels x y : ℕ) → is_among (path_of (suc (suc levels)) x y)
 unfolding path_of
 among_top levels x y = refl
 
-or_none : (a b : Bool) → (a || b) ≡ false → (a ≡ false) × (b ≡ false)
+pub or_none : (a b : Bool) → (a || b) ≡ false → (a ≡ false) × (b ≡ false)
 or_none true b h = absurd (cc)
 or_none false b h = (refl, h)
 

@@ -20,7 +20,8 @@ use Rattle.packet_headers.specs.Reading.{refusal_of}
 use Rattle.packet_headers.specs.ReadSteps.{kept_entry, kept_entries, kept_band, Told, ToldFits, told_bits, Tells, ZeroPlanesStand, OfSides, FoundBlock, ToldBand, IsStop, ToldBandFits, told_band_bits, stop_refusal, TellsBand, FoundBand}
 use Rattle.packet_headers.specs.ReadSteps.Told.{block, all_zero, too_many}
 use Rattle.packet_headers.specs.ReadSteps.ToldBand.{whole, stopped}
-use Rattle.packet_headers.proofs.ReadBits.{took_none, took_more, took_rest}
+use Rattle.tag_trees.proofs.UptoLemmas.{took_more}
+use Rattle.packet_headers.proofs.ReadBits.{took_none, took_rest}
 use Rattle.packet_headers.proofs.ReadCodes.{along}
 use Rattle.packet_headers.proofs.ReadIncluded.{took_less}
 use Rattle.packet_headers.proofs.BlockLemmas.{inclusion_writings-push}
@@ -162,8 +163,8 @@ length_alike xs ys e = sym (length-map xs (λ words. kept_entry words.entry)) �
 kept_push : (xs : List BlockWords) (x : BlockWords) → kept_entries (xs ++ x ∷ []) ≡ kept_entries xs ++ kept_entry x.entry ∷ []
 kept_push xs x = map-append (λ words. kept_entry words.entry) xs (x ∷ [])
 
-abbrev of_band : ℕ → ℕ → ℕ → List Entry → PacketBand
-of_band width height planes items = record { width = width; height = height; planes = planes; entries = record { items = items } }
+abbrev pub band_with : ℕ → ℕ → ℕ → List Entry → PacketBand
+band_with width height planes items = record { width = width; height = height; planes = planes; entries = record { items = items } }
 
 not_ok : (told : Told) (bits : BitSource) (entry : Entry) → IsStop told → Tells told bits (Ok entry) → ⊥
 not_ok (block words) bits entry s t = s
@@ -392,8 +393,8 @@ module _ (shape : BandShape) (inclusion zero_planes : Tree) (from mid : BitSourc
   band_is : (blocks : List BlockWords) (band : PacketBand) → kept_entries blocks ≡ band.entries.items → band.width ≡ shape.width → band.height ≡ shape.height → band.planes ≡ shape.planes
       → band ≡ kept_band shape blocks
   band_is blocks band e w h p =
-      ap (λ k. of_band k band.height band.planes band.entries.items) w ∙ ap (λ k. of_band shape.width k band.planes band.entries.items) h
-      ∙ ap (λ k. of_band shape.width shape.height k band.entries.items) p ∙ ap (λ k. of_band shape.width shape.height shape.planes k) (sym e)
+      ap (λ k. band_with k band.height band.planes band.entries.items) w ∙ ap (λ k. band_with shape.width k band.planes band.entries.items) h
+      ∙ ap (λ k. band_with shape.width shape.height k band.entries.items) p ∙ ap (λ k. band_with shape.width shape.height shape.planes k) (sym e)
 
   pub found_whole : (band : PacketBand) → band.entries.items ≡ items → band.width ≡ shape.width → band.height ≡ shape.height → band.planes ≡ shape.planes
       → place ≡ shape.width * shape.height → FoundBand shape from mid (Ok band)

@@ -1,20 +1,14 @@
 -- Bits that are taken one after the other, and the number that they have.
-use Rattle.std.proofs.Common.{◌≡◌, ℕ, suc, ◌+◌, ◌*◌, ◌<◌, ◌≤◌, ◌^◌, min, Bool, true, false, List, [], ◌∷◌, ◌++◌, length, refl, sym, ap, ◌∙◌, arith, append_assoc}
+use Rattle.std.proofs.Common.{◌≡◌, ℕ, suc, ◌+◌, ◌*◌, ◌<◌, ◌^◌, min, Bool, true, false, List, [], ◌∷◌, ◌++◌, length, refl, sym, ap, ◌∙◌, arith, append_assoc}
 use Rattle.std.proofs.lemmas.List.{append-nil, append_cancel_left}
 use mir.Val.{bool_byte}
 use Rattle.tag_trees.specs.Bits.{bit_value, number, value, value_from}
 use Rattle.tag_trees.specs.BitState.{BitSource, Took}
-use Rattle.tag_trees.proofs.BitLemmas.{number-length, number-push, value-push, value-number}
+use Rattle.tag_trees.proofs.BitLemmas.{bit_le, number-length, number-push, value-push, value-number}
+use Rattle.tag_trees.proofs.UptoLemmas.{took_more}
 
 pub took_none : (a : BitSource) → Took a [] a
 took_none a = record { same = refl; ahead = refl; taken = sym (append-nil a.taken) }
-
-pub took_more : (a b c : BitSource) (p q : List Bool) → Took a p b → Took b q c → Took a (p ++ q) c
-took_more a b c p q h k = record {
-  same = k.same ∙ h.same;
-  ahead = h.ahead ∙ ap (λ r. p ++ r) k.ahead ∙ sym (append_assoc p q c.ahead);
-  taken = k.taken ∙ ap (λ r. r ++ q) h.taken ∙ append_assoc a.taken p q;
-}
 
 -- what is ahead behind bits that were taken
 pub took_rest : (a b : BitSource) (p rest : List Bool) → Took a p b → a.ahead ≡ p ++ rest → b.ahead ≡ rest
@@ -48,10 +42,6 @@ pub number-value : (bits : List Bool) → number (length bits) (value bits) ≡ 
 unfolding number
 number-value bits = ap (λ k. number k (value bits)) (let e : length bits ≡ 0 + length bits = omega arith in e) ∙ number-value_from 0 0 bits
 
-bit_small : (b : Bool) → bit_value b ≤ 1
-bit_small true = omega arith
-bit_small false = omega arith
-
 double_power : (k : ℕ) → 2 ^ suc k ≡ 2 * 2 ^ k
 double_power k = grind arith
 
@@ -59,7 +49,7 @@ value_from-below : (n m : ℕ) (bits : List Bool) → n < m → value_from n bit
 unfolding value_from
 value_from-below n m [] h = omega arith
 value_from-below n m (b ∷ bits) h =
-    let s = bit_small b in
+    let s = bit_le b in
     let r = value_from-below (2 * n + bit_value b) (2 * m) bits (omega arith) in
     let e : 2 * m * 2 ^ length bits ≡ m * 2 ^ suc (length bits) = rw (double_power (length bits)) (omega arith) in
     omega arith
@@ -69,7 +59,7 @@ value-below bits = let r = value_from-below 0 1 bits (omega arith) in omega arit
 
 -- one bit more of a number that is kept up to a largest one
 pub kept_more : (word : List Bool) (b : Bool) (n c : ℕ) → n ≡ min (value word) c → min (min (n * 2) c + bit_value b) c ≡ min (value (word ++ b ∷ [])) c
-kept_more word b n c e = let p = value-push 0 word b in let s = bit_small b in omega arith
+kept_more word b n c e = let p = value-push 0 word b in let s = bit_le b in omega arith
 
 -- one bit more
 pub one_took : (a b c : BitSource) (p : List Bool) (bit : Bool) → Took a p b → c.bytes ≡ b.bytes → b.ahead ≡ bit ∷ c.ahead → c.taken ≡ b.taken ++ bit ∷ [] → Took a (p ++ bit ∷ []) c

@@ -18,7 +18,8 @@ use Rattle.packet_headers.specs.Grammar.{FitsAs, IsLeftOut, TreesFit}
 use Rattle.packet_headers.specs.Reading.{refusal_of}
 use Rattle.packet_headers.specs.ReadSteps.{no_entry, kept_entry, Told, ToldFits, IsInside, inside_bits, told_bits, Tells, OfSides, FoundInside, FoundBlock}
 use Rattle.packet_headers.specs.ReadSteps.Told.{block, all_zero, too_many}
-use Rattle.packet_headers.proofs.ReadBits.{took_more, took_rest}
+use Rattle.tag_trees.proofs.UptoLemmas.{took_more}
+use Rattle.packet_headers.proofs.ReadBits.{took_rest}
 use Rattle.packet_headers.proofs.BlockLemmas.{zero_plane_writings-push}
 use Rattle.packet_headers.proofs.ReadCodes.{along}
 use Rattle.packet_headers.proofs.ReadIncluded.{included_fits, took_less}

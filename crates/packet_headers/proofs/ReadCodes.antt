@@ -7,7 +7,8 @@ use Rattle.tag_trees.specs.BitState.{BitSource, Took}
 use Rattle.packet_headers.specs.Codewords.{pass_bits}
 use Rattle.std.proofs.Math.Nat.{pow-le-pow_right}
 use Rattle.tag_trees.proofs.BitLemmas.{number-length}
-use Rattle.packet_headers.proofs.ReadBits.{took_more, number_front, number_word, same_front, value-below}
+use Rattle.tag_trees.proofs.UptoLemmas.{took_more}
+use Rattle.packet_headers.proofs.ReadBits.{number_front, number_word, same_front, value-below}
 
 pub passes_one : pass_bits 1 ≡ false ∷ []
 unfolding pass_bits
@@ -193,6 +194,10 @@ took_bit a b bit same ahead taken = record { same = same; ahead = ahead; taken =
 
 pub along : (a b : BitSource) (p q : List Bool) → p ≡ q → Took a p b → Took a q b
 along a b p q e h = let P : List Bool → Type 0 = λ k. Took a k b in subst P e h
+
+-- a bit that is known
+pub bit_is : (a b : BitSource) (bit known : Bool) → bit ≡ known → b.bytes ≡ a.bytes → a.ahead ≡ bit ∷ b.ahead → b.taken ≡ a.taken ++ bit ∷ [] → Took a (known ∷ []) b
+bit_is a b bit known e same ahead taken = along a b (bit ∷ []) (known ∷ []) (ap (λ k. k ∷ []) e) (took_bit a b bit same ahead taken)
 
 -- Behind two ones: what each step of the reading answers.
 module _ (a b : BitSource) (two : Took a (true ∷ true ∷ []) b) where

@@ -21,9 +21,12 @@ use Rattle.packet_headers.specs.ReadSteps.{last_place, no_entry, kept_entries, k
 use Rattle.packet_headers.specs.ReadSteps.Told.{block, all_zero, too_many}
 use Rattle.packet_headers.specs.ReadSteps.ToldBands.{wholes, halted}
 use Rattle.packet_headers.specs.ReadSteps.FoundHeader.{packet, zero_stop, pass_stop}
-use Rattle.packet_headers.proofs.ReadBits.{took_more, took_rest}
+use Rattle.tag_trees.proofs.UptoLemmas.{took_more}
+use Rattle.packet_headers.proofs.ReadBits.{took_rest}
 use Rattle.packet_headers.proofs.ReadCodes.{along}
 use Rattle.packet_headers.proofs.ReadBlocks.{out_entry, out_fits}
+use Rattle.packet_headers.proofs.ReadBands.{band_with}
+use Rattle.packet_headers.proofs.ReadPackets.{packet_with}
 
 -- one number at all nodes
 same_ascends : (n : ℕ) (path : List ℕ) → Ascends (λ node. n) path
@@ -85,9 +88,6 @@ pub empty_entries : (n : ℕ) → replicate n no_entry ≡ map (λ (words : Bloc
 empty_entries zero = refl
 empty_entries (suc n) = ap (λ k. no_entry ∷ k) (empty_entries n)
 
-abbrev pub band_with : ℕ → ℕ → ℕ → List Entry → PacketBand
-band_with width height planes items = record { width = width; height = height; planes = planes; entries = record { items = items } }
-
 pub unfilled_is : (shape : BandShape) (items : List Entry) (n : ℕ) → items ≡ replicate n no_entry → n ≡ shape.width * shape.height
     → band_with shape.width shape.height shape.planes items ≡ band_of (empty_band shape)
 unfilled_is shape items n e h =
@@ -107,9 +107,6 @@ empty_are [] (b ∷ bands) f n = absurd f
 empty_are (s ∷ shapes) [] f n = absurd f
 empty_are (s ∷ shapes) (b ∷ bands) f n =
     ap (λ k. k ∷ map kept_words bands) (empty_is s b f.0 n.0) ∙ ap (λ k. band_of (empty_band s) ∷ k) (empty_are shapes bands f.1 n.1)
-
-abbrev pub packet_with : List PacketBand → Packet
-packet_with items = record { bands = record { items = items } }
 
 empty_twice : (shapes : List BandShape) → map (λ shape. band_of (empty_band shape)) shapes ≡ map band_of (map empty_band shapes)
 empty_twice [] = refl

@@ -19,7 +19,8 @@ use Rattle.packet_headers.specs.Grammar.{most_passes, FitsAs, IsIncluded, TreesF
 use Rattle.packet_headers.specs.Reading.{refusal_of}
 use Rattle.packet_headers.specs.ReadSteps.{last_place, FoundZeroPlanes, kept_entry, Told, zero_planes_at, ToldFits, IsInside, inside_bits, Tells, OfSides, FoundInside}
 use Rattle.packet_headers.specs.ReadSteps.Told.{block, all_zero, too_many}
-use Rattle.packet_headers.proofs.ReadBits.{took_more, took_rest}
+use Rattle.tag_trees.proofs.UptoLemmas.{took_more}
+use Rattle.packet_headers.proofs.ReadBits.{took_rest}
 use Rattle.packet_headers.proofs.BlockLemmas.{zero_plane_writings-push}
 use Rattle.packet_headers.proofs.ReadCodes.{along}
 use Rattle.packet_headers.proofs.ReadLengths.{length_same}

@@ -9,7 +9,8 @@ use Rattle.tag_trees.specs.Bits.{number, value}
 use Rattle.tag_trees.specs.BitState.{BitSource, Took}
 use Rattle.tag_trees.proofs.BitLemmas.{number-length}
 use Rattle.packet_headers.specs.Codewords.{length_bits, length_width}
-use Rattle.packet_headers.proofs.ReadBits.{took_more, number_front, number_word, same_front, value-below}
+use Rattle.tag_trees.proofs.UptoLemmas.{took_more}
+use Rattle.packet_headers.proofs.ReadBits.{number_front, number_word, same_front, value-below}
 use Rattle.packet_headers.proofs.ReadCodes.{along, Word}
 
 -- ones up to a zero, in one way

@@ -16,7 +16,8 @@ use Rattle.packet_headers.specs.ReadSteps.{kept_band, kept_words, Told, ToldFits
 use Rattle.packet_headers.specs.ReadSteps.Told.{block, all_zero, too_many}
 use Rattle.packet_headers.specs.ReadSteps.ToldBand.{whole, stopped}
 use Rattle.packet_headers.specs.ReadSteps.ToldBands.{wholes, halted}
-use Rattle.packet_headers.proofs.ReadBits.{took_none, took_more, took_rest, same_front}
+use Rattle.tag_trees.proofs.UptoLemmas.{took_more}
+use Rattle.packet_headers.proofs.ReadBits.{took_none, took_rest, same_front}
 use Rattle.packet_headers.proofs.ReadCodes.{along}
 use Rattle.packet_headers.proofs.ReadIncluded.{took_less}
 use Rattle.packet_headers.proofs.HeaderLemmas.{bands_bits-push}
@@ -126,7 +127,7 @@ bands_sofar_none shapes from = record {
 same_at' : (p q x y : List BandShape) → length p ≡ length q → p ++ x ≡ q ++ y → p ≡ q
 same_at' p q x y l e = (same_front p q x y l e).0
 
-abbrev packet_with : List PacketBand → Packet
+abbrev pub packet_with : List PacketBand → Packet
 packet_with items = record { bands = record { items = items } }
 
 -- a stop's block is included

@@ -24,6 +24,7 @@ use Rattle.packet_headers.specs.ReadSteps.{last_place, kept_entry, kept_entries,
 use Rattle.packet_headers.specs.ReadSteps.FoundHeader.{packet, zero_stop, pass_stop}
 use Rattle.packet_headers.specs.Written.{written, written_bits, shapes_of, ArePlain, CanWrite}
 use Rattle.packet_headers.proofs.FitsLemmas.{header_found, packet_same}
+use Rattle.packet_headers.proofs.ReadPackets.{packet_with}
 use Rattle.packet_headers.proofs.ReadZeroPlanes.{fault_not_zero}
 
 -- at most eight bits a byte can be taken
@@ -53,9 +54,6 @@ with_len entry n = record { included = entry.included; zero_planes = entry.zero_
 
 abbrev with_entries : BandWords → List Entry → PacketBand
 with_entries band items = record { width = band.trees.width; height = band.trees.height; planes = band.planes; entries = record { items = items } }
-
-abbrev packet_with : List PacketBand → Packet
-packet_with items = record { bands = record { items = items } }
 
 entry_kept : (entry : Entry) → entry.len < 4294967295 → kept_entry entry ≡ entry
 entry_kept entry h = ap (λ n. with_len entry n) (let e : min entry.len 4294967295 ≡ entry.len = omega arith in e)

@@ -14,7 +14,8 @@ use Rattle.tag_trees.specs.declared.fault.BitFault.{BitFault}
 use Rattle.tag_trees.specs.declared.fault.BitFault.TheVariants.{OutOfBits, StuffedBitSet}
 use Rattle.packet_headers.specs.Reading.{refusal_of}
 use Rattle.packet_headers.specs.ReadSteps.{last_place, FoundZeroPlanes}
-use Rattle.packet_headers.proofs.ReadBits.{took_none, took_more, took_rest}
+use Rattle.tag_trees.proofs.UptoLemmas.{took_more}
+use Rattle.packet_headers.proofs.ReadBits.{took_none, took_rest}
 use Rattle.packet_headers.proofs.ReadCodes.{along}
 
 -- up to 0 nothing is written

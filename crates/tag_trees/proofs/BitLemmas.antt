@@ -3,7 +3,17 @@ use Rattle.std.proofs.Common.{◌≡◌, ℕ, suc, zero, ◌+◌, ◌*◌, ◌/�
 use Rattle.std.specs.Prelude.{◌==◌, replicate}
 use Rattle.std.proofs.lemmas.List.{append-nil}
 use Rattle.std.proofs.Math.Nat.{pow-suc}
+use mir.Val.{bool_byte}
 use Rattle.tag_trees.specs.Bits.{bit_value, number, value_from, value, width_behind, useful, IsStuffed, ends_in_ff}
+
+-- the byte of a bit is its number
+pub bit_of : (n : ℕ) (b : Bool) → n ≡ bool_byte b → n ≡ bit_value b
+bit_of n true h = h
+bit_of n false h = h
+
+pub bit_le : (b : Bool) → bit_value b ≤ 1
+bit_le true = omega arith
+bit_le false = omega arith
 
 pub number-length : (w n : ℕ) → length (number w n) ≡ w
 unfolding number

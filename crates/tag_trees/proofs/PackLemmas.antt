@@ -127,10 +127,10 @@ number-shift f (suc k) p =
     ∙ append_assoc (number f p) (replicate k false) (false ∷ [])
     ∙ ap (λ r. number f p ++ r) (rw add-one at more)
 
-closes_none : (e : Bool) → e ≡ false → Closes e []
+pub closes_none : (e : Bool) → e ≡ false → Closes e []
 closes_none e h = rw h tt
 
-closes_byte : (e : Bool) (y : ℕ) → e ≡ true → y < 128 → Closes e (y ∷ [])
+pub closes_byte : (e : Bool) (y : ℕ) → e ≡ true → y < 128 → Closes e (y ∷ [])
 closes_byte e y h k = rw h k
 
 shift_below : (p f k : ℕ) → p < 2 ^ f → p * 2 ^ k < 2 ^ (f + k)

@@ -1,15 +1,17 @@
 -- What a reader of bits has opened.
 use Rattle.std.proofs.Common.{◌≡◌, ℕ, suc, zero, ◌+◌, ◌-◌, ◌*◌, ◌/◌, ◌%◌, ◌^◌, ◌<◌, ◌≤◌, Bool, true, false, List, [], ◌∷◌, ◌++◌, length, take, drop, get_or, refl, sym, ap, ◌∙◌, inl, inr, arith, append_assoc, length-append, add-one, ltb}
 use Rattle.std.specs.Prelude.{◌==◌, ◌⊎◌}
-use Rattle.std.proofs.lemmas.Bool.{leb-false, ne_eqb, eq-eqb, lt-leb, lt-ltb, le-ltb, cases_lt, cases_eq}
+use Rattle.std.proofs.lemmas.Bool.{leb-false, ne_eqb, eq-eqb, le-leb, lt-leb, lt-ltb, le-ltb, cases_lt, cases_eq}
 use Rattle.std.proofs.lemmas.Bool.Decides.{eqb_tells}
 use Rattle.std.proofs.lemmas.List.{append-nil, take_at, length-take-le, take_more, drop_more, drop_all, take-take, take-append-drop, length-drop, get_or-take, get_or-append_right}
 use Rattle.std.proofs.Math.Nat.{pow-succ', div-div-eq-div-mul}
 use Rattle.tag_trees.specs.Bits.{number, width_behind, useful, IsStuffed, ends_in_ff}
 use Rattle.tag_trees.specs.Stuffing.{Closes, Stuffs, is_broken, supply_from, supply, fault_from, fault_of, place_from, place_of}
-use Rattle.tag_trees.specs.BitState.{Opens, opened_bits}
+use Rattle.tag_trees.specs.BitState.{BitSource, Opens, opened_bits}
+use Rattle.tag_trees.specs.declared.fault.BitFault.{BitFault}
 use Rattle.tag_trees.specs.declared.fault.BitFault.TheVariants.{OutOfBits, StuffedBitSet}
 use Rattle.tag_trees.proofs.BitLemmas.{number-length, useful-append, useful-push, useful-length, ends-push, stuffed-push, stuffed-split, width_le}
+use Rattle.tag_trees.proofs.PackLemmas.{closes_none, closes_byte}
 
 -- the bit of n above its low r bits
 abbrev pub bit_above : ℕ → ℕ → Bool
@@ -154,6 +156,14 @@ unfolding supply_from
 end_ahead bytes opened last left e none =
     ap (λ b. b ++ supply_from (last == 255) (drop opened bytes)) (none_left left last none)
     ∙ ap (supply_from (last == 255)) (drop_all opened bytes (omega arith))
+
+-- a stuffed bit that is 1
+pub is_broken-true : (last byte : ℕ) → last ≡ 255 → 128 ≤ byte → is_broken (last == 255) byte ≡ true
+is_broken-true last byte e h = let f = eq-eqb last 255 e in let b = le-leb 128 byte h in rw (f, b) refl
+
+-- the fault that the fields' reader tells is the reader's
+pub fault_along : (s t : BitSource) (f : BitFault) → s ≡ t → f ≡ fault_of s.bytes → f ≡ fault_of t.bytes
+fault_along s t f e h = h ∙ ap (λ (r : BitSource). fault_of r.bytes) e
 
 pub end_fault : (bytes : List ℕ) (opened last left : ℕ) → Opens bytes opened last left → opened ≡ length bytes
     → OutOfBits opened ≡ fault_of bytes
@@ -310,12 +320,6 @@ only_next bytes opened last left n opens inside s is =
           (omega arith, within, low))
     ]
 
-closed_by : (e : Bool) → e ≡ false → Closes e []
-closed_by e h = rw h tt
-
-closed_byte : (e : Bool) (y : ℕ) → e ≡ true → y < 128 → Closes e (y ∷ [])
-closed_byte e y h k = rw h k
-
 -- the header that ends with the reader's last byte
 pub stuffs_opened : (bytes : List ℕ) (opened last left : ℕ) → Opens bytes opened last left → (last ≡ 255 → ⊥)
     → Stuffs (opened_bits bytes opened left) (take opened bytes)
@@ -327,7 +331,7 @@ stuffs_opened bytes opened last left opens other = record {
   bits_are = opens.split;
   padded = rw (number-length left last) opens.few;
   stuffed = opens.stuffed;
-  closed = closed_by (ends_in_ff false (take opened bytes)) (opens.behind ∙ ne_eqb last 255 other);
+  closed = closes_none (ends_in_ff false (take opened bytes)) (opens.behind ∙ ne_eqb last 255 other);
 }
 
 -- and the one with a byte more
@@ -341,7 +345,7 @@ stuffs_next bytes opened last left opens is inside low = record {
   bits_are = opens.split;
   padded = rw (number-length left last) opens.few;
   stuffed = opens.stuffed;
-  closed = closed_byte (ends_in_ff false (take opened bytes)) (get_or bytes opened 0) (opens.behind ∙ eq-eqb last 255 is) low;
+  closed = closes_byte (ends_in_ff false (take opened bytes)) (get_or bytes opened 0) (opens.behind ∙ eq-eqb last 255 is) low;
 }
 
 -- the byte of a bit behind whole bytes

@@ -132,7 +132,7 @@ module _ (old new : Tree) (from to : BitSource) (x y t : ℕ) (column : x < widt
   }
 
 -- bits that were taken one after the other
-took_more : (a b c : BitSource) (p q : List Bool) → Took a p b → Took b q c → Took a (p ++ q) c
+pub took_more : (a b c : BitSource) (p q : List Bool) → Took a p b → Took b q c → Took a (p ++ q) c
 took_more a b c p q h k = record {
   same = k.same ∙ h.same;
   ahead = h.ahead ∙ ap (λ r. p ++ r) k.ahead ∙ sym (append_assoc p q c.ahead);

@@ -4,12 +4,9 @@ use Rattle.cine_nums.specs.Bits.{bit_len}
 use Rattle.tag_trees.specs.BitState.{BitSource, Took}
 use Rattle.packet_headers.specs.Codewords.{length_width}
 use Rattle.packet_headers.proofs.ReadBits.{one_took}
-use Rattle.packet_headers.proofs.ReadCodes.{took_bit, along}
+use Rattle.packet_headers.proofs.ReadCodes.{bit_is, along}
 use Rattle.packet_headers.proofs.ReadLengths.{width_is, one_more, reads_ends, took_by, reads_by}
 use Rattle.packet_headers.proofs.read_codes.read_length.Goals as goal
-
-bit_is : (a b : BitSource) (bit known : Bool) → bit ≡ known → b.bytes ≡ a.bytes → a.ahead ≡ bit ∷ b.ahead → b.taken ≡ a.taken ++ bit ∷ [] → Took a (known ∷ []) b
-bit_is a b bit known e same ahead taken = along a b (bit ∷ []) (known ∷ []) (ap (λ k. k ∷ []) e) (took_bit a b bit same ahead taken)
 
 more_ones : (a b d : BitSource) (r : ℕ) (bit : Bool) → Took a (replicate r true) b → bit ≡ true → d.bytes ≡ b.bytes → b.ahead ≡ bit ∷ d.ahead → d.taken ≡ b.taken ++ bit ∷ []
     → Took a (replicate (r + 1) true) d

@@ -1,12 +1,8 @@
 use Rattle.std.proofs.Common.{◌≡◌, ◌<◌, ◌++◌, List, Bool, true, [], ◌∷◌, arith, ap, sym, ◌∙◌}
 use Rattle.tag_trees.specs.BitState.{BitSource, Took}
-use Rattle.packet_headers.proofs.ReadBits.{took_more}
-use Rattle.packet_headers.proofs.ReadCodes.{took_bit, along, passes_one, passes_two, first_zero, second_zero, ends_first, ends_second, reads_two_ends, took_few, reads_few, reads_five_ends, took_some, reads_some, reads_seven_ends, took_many, reads_many}
+use Rattle.tag_trees.proofs.UptoLemmas.{took_more}
+use Rattle.packet_headers.proofs.ReadCodes.{bit_is, along, passes_one, passes_two, first_zero, second_zero, ends_first, ends_second, reads_two_ends, took_few, reads_few, reads_five_ends, took_some, reads_some, reads_seven_ends, took_many, reads_many}
 use Rattle.packet_headers.proofs.read_codes.read_passes.Goals as goal
-
--- a bit that is known
-bit_is : (a b : BitSource) (bit known : Bool) → bit ≡ known → b.bytes ≡ a.bytes → a.ahead ≡ bit ∷ b.ahead → b.taken ≡ a.taken ++ bit ∷ [] → Took a (known ∷ []) b
-bit_is a b bit known e same ahead taken = along a b (bit ∷ []) (known ∷ []) (ap (λ k. k ∷ []) e) (took_bit a b bit same ahead taken)
 
 one_then : (a b : BitSource) (x : List Bool) → Took a (true ∷ []) b → b.ahead ≡ x → a.ahead ≡ true ∷ x
 one_then a b x h e = h.ahead ∙ ap (λ k. true ∷ k) e

@@ -1,13 +1,9 @@
-use Rattle.std.proofs.Common.{◌≡◌, Bool, [], ◌∷◌, ◌++◌, inr, arith, ap, Ok}
-use Rattle.tag_trees.specs.BitState.{BitSource, Took}
+use Rattle.std.proofs.Common.{inr, arith, ap, Ok}
 use Rattle.tag_trees.specs.Stuffing.{fault_of}
-use Rattle.packet_headers.proofs.ReadCodes.{along, took_bit}
+use Rattle.packet_headers.proofs.ReadCodes.{bit_is}
 use Rattle.packet_headers.proofs.ReadIncluded.{took_less}
 use Rattle.packet_headers.proofs.ReadHeaders.{found_empty, reads_empty, empty_no_zero, empty_no_pass, found_filled, reads_filled, reads_zero, reads_pass, no_first, no_zero_first, no_pass_first}
 use Rattle.packet_headers.proofs.read_packet.read_header.Goals as goal
-
-bit_is : (a b : BitSource) (bit known : Bool) → bit ≡ known → b.bytes ≡ a.bytes → a.ahead ≡ bit ∷ b.ahead → b.taken ≡ a.taken ++ bit ∷ [] → Took a (known ∷ []) b
-bit_is a b bit known e same ahead taken = along a b (bit ∷ []) (known ∷ []) (ap (λ k. k ∷ []) e) (took_bit a b bit same ahead taken)
 
 pub returns-in_err-take-clause-reads : goal.returns-in_err-take-clause-reads
 returns-in_err-take-clause-reads c words rest f e = absurd (no_first c.args.bits.now words rest c.in_err-take.ensures.none e)

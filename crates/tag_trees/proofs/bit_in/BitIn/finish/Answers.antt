@@ -1,10 +1,8 @@
-use Rattle.std.proofs.Common.{◌≡◌, ℕ, ◌<◌, ◌≤◌, length, take, sym, ap, ◌∙◌, arith, Ok, Result, refl}
-use Rattle.std.proofs.lemmas.Bool.{eq-eqb, le-leb}
-use Rattle.std.specs.Prelude.{◌==◌, true}
-use Rattle.tag_trees.specs.Stuffing.{Stuffs, fault_of, is_broken}
+use Rattle.std.proofs.Common.{◌≡◌, ℕ, ◌<◌, ◌≤◌, length, take, sym, ap, arith, Ok, Result, refl}
+use Rattle.tag_trees.specs.Stuffing.{Stuffs}
 use Rattle.tag_trees.specs.BitState.{BitSource}
 use Rattle.tag_trees.specs.declared.fault.BitFault.{BitFault}
-use Rattle.tag_trees.proofs.TakeLemmas.{only_opened, only_next, stuffs_opened, stuffs_next, end_fault, broken_fault}
+use Rattle.tag_trees.proofs.TakeLemmas.{only_opened, only_next, stuffs_opened, stuffs_next, end_fault, broken_fault, is_broken-true, fault_along}
 use Rattle.tag_trees.proofs.bit_in.BitIn.finish.Goals as goal
 
 -- what holds of the fields' reader holds of the reader
@@ -14,12 +12,6 @@ used_along s t n e h = rw (sym e) h
 only_along : (s t : BitSource) (r : Result ℕ BitFault) → s ≡ t → ((n : ℕ) → n ≤ length s.bytes → Stuffs s.taken (take n s.bytes) → r ≡ Ok n)
     → (n : ℕ) → n ≤ length t.bytes → Stuffs t.taken (take n t.bytes) → r ≡ Ok n
 only_along s t r e h = rw (sym e) h
-
-fault_along : (s t : BitSource) (f : BitFault) → s ≡ t → f ≡ fault_of s.bytes → f ≡ fault_of t.bytes
-fault_along s t f e h = h ∙ ap (λ (r : BitSource). fault_of r.bytes) e
-
-is_broken-true : (last byte : ℕ) → last ≡ 255 → 128 ≤ byte → is_broken (last == 255) byte ≡ true
-is_broken-true last byte e h = let f = eq-eqb last 255 e in let b = le-leb 128 byte h in rw (f, b) refl
 
 pub returns-then-self-clause-used : goal.returns-then-self-clause-used
 returns-then-self-clause-used c =

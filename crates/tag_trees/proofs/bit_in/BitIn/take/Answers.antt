@@ -1,15 +1,11 @@
-use Rattle.std.proofs.Common.{◌≡◌, ℕ, ◌<◌, ◌≤◌, ◌+◌, ◌-◌, Bool, true, false, length, inl, inr, List, [], ◌∷◌, ◌++◌, refl, sym, ap, ◌∙◌, arith}
+use Rattle.std.proofs.Common.{◌≡◌, ℕ, ◌<◌, ◌≤◌, ◌+◌, ◌-◌, Bool, false, length, inl, inr, List, [], ◌∷◌, ◌++◌, refl, sym, ap, ◌∙◌, arith}
 use Rattle.std.specs.Prelude.{◌==◌, ◌⊎◌}
-use Rattle.std.proofs.lemmas.Bool.{eq-eqb, ne_eqb, le-leb, lt-leb}
-use Rattle.tag_trees.specs.Stuffing.{is_broken, fault_of}
+use Rattle.std.proofs.lemmas.Bool.{eq-eqb, ne_eqb, lt-leb}
+use Rattle.tag_trees.specs.Stuffing.{is_broken}
 use Rattle.tag_trees.specs.BitState.{BitSource}
 use Rattle.tag_trees.proofs.BitLemmas.{seven_le}
-use Rattle.tag_trees.proofs.TakeLemmas.{less_taken, less_opens, less_ahead, open_taken, open_opens, open_ahead, end_ahead, end_fault, broken_ahead, broken_fault}
+use Rattle.tag_trees.proofs.TakeLemmas.{less_taken, less_opens, less_ahead, open_taken, open_opens, open_ahead, end_ahead, end_fault, broken_ahead, broken_fault, is_broken-true, fault_along}
 use Rattle.tag_trees.proofs.bit_in.BitIn.take.Goals as goal
-use Rattle.tag_trees.specs.declared.fault.BitFault.{BitFault}
-
-is_broken-true : (last byte : ℕ) → last ≡ 255 → 128 ≤ byte → is_broken (last == 255) byte ≡ true
-is_broken-true last byte e h = let f = eq-eqb last 255 e in let b = le-leb 128 byte h in rw (f, b) refl
 
 is_broken-low : (last byte : ℕ) → last ≡ 255 → byte < 128 → is_broken (last == 255) byte ≡ false
 is_broken-low last byte e h = let f = eq-eqb last 255 e in let b = lt-leb 128 byte h in rw (f, b) refl
@@ -26,9 +22,6 @@ along_ahead s t bits e h = ap (λ (r : BitSource). r.ahead) (sym e) ∙ h
 along_taken : (s t : BitSource) (bits : List Bool) (bit : Bool) → s ≡ t → bits ≡ s.taken ++ bit ∷ [] → bits ≡ t.taken ++ bit ∷ []
 along_taken s t bits bit e h = h ∙ ap (λ (r : BitSource). r.taken ++ bit ∷ []) e
 
-along_fault : (s t : BitSource) (f : BitFault) → s ≡ t → f ≡ fault_of s.bytes → f ≡ fault_of t.bytes
-along_fault s t f e h = h ∙ ap (λ (r : BitSource). fault_of r.bytes) e
-
 pub invariant_of-self : goal.invariant_of-self
 invariant_of-self c = less_opens _ _ _ _ _ c.self.invariant (omega arith)
 
@@ -42,7 +35,7 @@ pub returns-then-place-self-clause-none : goal.returns-then-place-self-clause-no
 returns-then-place-self-clause-none c = along_ahead _ _ _ c.self.view_is (end_ahead _ _ _ _ c.if-place-self.true c.if-self-gt0.false)
 
 pub returns-then-place-self-clause-fault : goal.returns-then-place-self-clause-fault
-returns-then-place-self-clause-fault c = along_fault _ _ _ c.self.view_is (end_fault _ _ _ _ c.self.invariant c.if-place-self.true)
+returns-then-place-self-clause-fault c = fault_along _ _ _ c.self.view_is (end_fault _ _ _ _ c.self.invariant c.if-place-self.true)
 
 pub returns-then-byte-ge128-clause-none : goal.returns-then-byte-ge128-clause-none
 returns-then-byte-ge128-clause-none c =
@@ -53,7 +46,7 @@ returns-then-byte-ge128-clause-none c =
 pub returns-then-byte-ge128-clause-fault : goal.returns-then-byte-ge128-clause-fault
 returns-then-byte-ge128-clause-fault c =
     let inside : c.self.inside.opened < length c.self.inside.bytes.now = omega (arith, c.self.invariant.within) in
-    along_fault _ _ _ c.self.view_is
+    fault_along _ _ _ c.self.view_is
     (broken_fault _ _ _ _ _ c.self.invariant inside refl (is_broken-true _ _ c.if-self.true c.if-byte-ge128.true))
 
 -- the byte that is opened can be read

@@ -1,20 +1,11 @@
-use Rattle.std.proofs.Common.{◌≡◌, ℕ, ◌+◌, ◌*◌, ◌<◌, ◌≤◌, Bool, true, false, List, [], ◌∷◌, ◌++◌, length, sym, ap, ◌∙◌, arith, append_assoc, length-append}
+use Rattle.std.proofs.Common.{◌≡◌, ℕ, ◌+◌, ◌*◌, ◌<◌, ◌≤◌, Bool, false, List, [], ◌∷◌, ◌++◌, length, sym, ap, ◌∙◌, arith, append_assoc, length-append}
 use Rattle.std.proofs.lemmas.List.{append-nil}
 use mir.Val.{bool_byte}
-use Rattle.tag_trees.specs.Bits.{number, useful, bit_value}
+use Rattle.tag_trees.specs.Bits.{number, useful}
 use Rattle.tag_trees.specs.BitState.{Keeps}
-use Rattle.tag_trees.proofs.BitLemmas.{number-length, number-push, useful-push}
+use Rattle.tag_trees.proofs.BitLemmas.{bit_of, bit_le, number-length, number-push, useful-push}
 use Rattle.tag_trees.proofs.PackLemmas.{keeps_more, keeps_whole, room_for_byte}
 use Rattle.tag_trees.proofs.bit_out.BitOut.put.Goals as goal
-
--- the byte of a bit is its number
-bit_of : (n : ℕ) (b : Bool) → n ≡ bool_byte b → n ≡ bit_value b
-bit_of n true h = h
-bit_of n false h = h
-
-bit_le : (b : Bool) → bit_value b ≤ 1
-bit_le true = omega arith
-bit_le false = omega arith
 
 few_before : (bytes : List ℕ) (part filled : ℕ) (bits : List Bool) → useful false bytes ++ number filled part ≡ bits → length bits < 7000
     → length (useful false bytes) + filled < 7000
