@@ -29,7 +29,7 @@ nothing_in rest = ended tt rest
 abbrev nothing : Result (Unit {0}) Fault
 nothing = Ok tt
 
-abbrev empty : Unit {0}
+abbrev pub empty : Unit {0}
 empty = tt
 
 pub end-fault : (limits : SizeLimits) (bytes : List ℕ) (w h at : ℕ) (front s rest : List ℕ) (fault : Fault) → header_at limits bytes ≡ Ok ((w, h), at, front)

@@ -10,6 +10,7 @@ use Rattle.pnm_frames.specs.Grammar.{is_white, header_limit}
 use Rattle.pnm_frames.specs.Picture.{Picture}
 use Rattle.pnm_frames.specs.Reading.{Read, byte_at, magic_at, white_at, digits_at, number_at, ranged_at, or_fault, header_at, samples_at, plane_of, ended, frame_of}
 use Rattle.pnm_frames.proofs.Laws.{Sizes, behind_white, judged, step1, step2, step3, step4, step5, step6, step7}
+use Rattle.pnm_frames.proofs.Files.{empty}
 
 stands-on : {X Y : Type 0} (e : Fault) (whole : ℕ) (l : Result X Fault) (f : X → Result Y Fault) → Stands e whole l → Stands e whole (l >>= f)
 stands-on (Truncated seen) whole l f h = h
@@ -107,9 +108,6 @@ goes-or whole more fault (Some n) f g stands next = next n
 
 abbrev letter : ℕ → Point ℕ → Read ℕ
 letter wanted first = cond (eqb first.0 wanted) (byte_at first.1 first.2) (Err NotPpm)
-
-abbrev empty : Unit {0}
-empty = tt
 
 abbrev behind_six : Point ℕ → Point ℕ → Read (Unit {0})
 behind_six second gap = cond (is_white gap.0) (Ok (empty, gap.1, gap.2)) (Err (BadHeader second.1))

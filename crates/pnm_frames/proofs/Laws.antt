@@ -11,6 +11,7 @@ use Rattle.pnm_frames.specs.Fault.{Fault, ◌>>=◌, BadHeader, HeaderTooLong, N
 use Rattle.pnm_frames.specs.Picture.{Picture, IsWithin, raster}
 use Rattle.pnm_frames.specs.Grammar.{is_white, value_from, IsGap, IsNumeral, Parts, header, header_limit, IsHeader, Spells}
 use Rattle.pnm_frames.specs.Reading.{Read, byte_at, magic_at, white_at, digits_at, number_at, ranged_at, or_fault, header_at, ended}
+use Rattle.pnm_frames.proofs.Files.{empty}
 
 -- which way a choice went
 pub chosen : {A : Type 0} (b : Bool) (x y z : A) → cond b x y ≡ z → ((b ≡ true) × (x ≡ z)) ⊎ ((b ≡ false) × (y ≡ z))
@@ -235,9 +236,6 @@ letter-found wanted first read e =
           let rest = byte-found first.1 first.2 read right.1 in
           (eqb-true first.0 wanted right.0, rest.0, rest.1)
     ]
-
-abbrev empty : Unit {0}
-empty = tt
 
 abbrev pub Mark : Type 0
 Mark = Unit {0} × ℕ × List ℕ
