@@ -1,7 +1,8 @@
 -- Four bytes at a time.
-use Rattle.std.proofs.Common.{◌≡◌, ℕ, ◌+◌, ◌*◌, ◌/◌, ◌%◌, ◌^◌, ◌<◌, Bool, List, refl, sym, ap, subst, ◌∙◌, arith}
+use Rattle.std.proofs.Common.{◌≡◌, ℕ, ◌+◌, ◌*◌, ◌/◌, ◌%◌, ◌^◌, ◌<◌, ◌≤◌, Bool, List, inl, inr, refl, sym, ap, subst, ◌∙◌, arith}
 use Rattle.std.specs.Prelude.{bit_and}
-use Rattle.std.proofs.lemmas.Nat.{shr-shr, field_of, and_block, and_le_r}
+use Rattle.std.proofs.lemmas.Nat.{shr-shr, field_of, and_block, and_le_l, and_le_r, and_mask}
+use Rattle.std.proofs.lemmas.Bool.{cases_lt}
 use Rattle.std.proofs.Math.Nat.{mod-lt}
 use Rattle.tag_trees.specs.BitState.{Counts, HasNoFf}
 use Rattle.std.proofs.Math.Pow.{mod-mod-pow}
@@ -29,6 +30,24 @@ test_digit x a b c d h =
 told : (d : ℕ) → test_of d 127 1 128 ≡ 0 → d ≡ 255 → ⊥
 told d h e = let k : test_of 255 127 1 128 ≡ 0 = ap (λ n. test_of n 127 1 128) (sym e) ∙ h in let n : test_of 255 127 1 128 ≡ 128 = refl in omega arith
 
+-- and no other digit is
+below_128 : (y : ℕ) → y < 128 → bit_and y 128 ≡ 0
+below_128 y h =
+    let same : y ≡ 0 * 2 ^ 7 + y = omega arith in
+    let low : bit_and y 0 ≤ 0 = and_le_r y 0 in
+    let none : bit_and 0 1 * 2 ^ 7 + bit_and y 0 ≡ 0 = omega (arith, low) in
+    ap (λ n. bit_and n 128) same ∙ and_block 7 0 1 y 0 h (omega arith) ∙ none
+
+untold : (d : ℕ) → d < 256 → (d ≡ 255 → ⊥) → test_of d 127 1 128 ≡ 0
+untold d h other =
+    let low : bit_and d 127 ≡ d % 2 ^ 7 = and_mask d 7 in
+    elim (cases_lt (d % 2 ^ 7) 127) [
+      | inl less ↦
+          let most : bit_and (bit_and d 127 + 1) d ≤ bit_and d 127 + 1 = and_le_l (bit_and d 127 + 1) d in
+          below_128 (bit_and (bit_and d 127 + 1) d) (omega (arith, low))
+      | inr all ↦ let is : d ≡ 127 = omega arith in rw is refl
+    ]
+
 digits : (x d : ℕ) → x * 2 ^ 8 + d ≡ 0 → (x ≡ 0) × (d ≡ 0)
 digits x d h = (omega arith, omega arith)
 
@@ -42,6 +61,14 @@ one_digit x a b c h =
     let e = ap (λ n. test_of n (a * 2 ^ 8 + 127) (b * 2 ^ 8 + 1) (c * 2 ^ 8 + 128)) (sym (word_parts x)) ∙ h in
     let k = digits (test_of (x / 2 ^ 8) a b c) (test_of (x % 2 ^ 8) 127 1 128) (sym (test_digit (x / 2 ^ 8) a b c (x % 2 ^ 8) low) ∙ e) in
     (k.0, told (x % 2 ^ 8) k.1)
+
+one_more_digit : (x a b c : ℕ) → test_of (x / 2 ^ 8) a b c ≡ 0 → (x % 2 ^ 8 ≡ 255 → ⊥) → test_of x (a * 2 ^ 8 + 127) (b * 2 ^ 8 + 1) (c * 2 ^ 8 + 128) ≡ 0
+one_more_digit x a b c h other =
+    let low : x % 2 ^ 8 < 256 = mod-lt x (omega arith) in
+    let e = ap (λ n. test_of n (a * 2 ^ 8 + 127) (b * 2 ^ 8 + 1) (c * 2 ^ 8 + 128)) (word_parts x) in
+    let k = test_digit (x / 2 ^ 8) a b c (x % 2 ^ 8) low in
+    let last = untold (x % 2 ^ 8) low other in
+    e ∙ k ∙ (let sum : test_of (x / 2 ^ 8) a b c * 2 ^ 8 + test_of (x % 2 ^ 8) 127 1 128 ≡ 0 = omega (arith, h, last) in sum)
 
 pub no_ff : (word : ℕ) → test_of word 2139062143 16843009 2155905152 ≡ 0 → HasNoFf word
 no_ff word h =
@@ -57,6 +84,17 @@ no_ff word h =
       third = b.1;
       last = λ e. a.1 (let s : word / 2 ^ 0 ≡ word = omega arith in ap (λ n. n % 2 ^ 8) (sym s) ∙ e);
     }
+
+pub no_ff_untold : (word : ℕ) → HasNoFf word → test_of word 2139062143 16843009 2155905152 ≡ 0
+no_ff_untold word none =
+    let two : word / 2 ^ 8 / 2 ^ 8 ≡ word / 2 ^ 16 = shr-shr word 8 8 in
+    let three : word / 2 ^ 8 / 2 ^ 8 / 2 ^ 8 ≡ word / 2 ^ 24 = ap (λ n. n / 2 ^ 8) two ∙ shr-shr word 16 8 in
+    let whole : word / 2 ^ 0 ≡ word = omega arith in
+    let above : test_of (word / 2 ^ 8 / 2 ^ 8 / 2 ^ 8 / 2 ^ 8) 0 0 0 ≡ 0 = let most = and_le_r (bit_and (bit_and (word / 2 ^ 8 / 2 ^ 8 / 2 ^ 8 / 2 ^ 8) 0 + 0) (word / 2 ^ 8 / 2 ^ 8 / 2 ^ 8 / 2 ^ 8)) 0 in omega arith in
+    let d = one_more_digit (word / 2 ^ 8 / 2 ^ 8 / 2 ^ 8) 0 0 0 above (λ e. none.first (ap (λ n. n % 2 ^ 8) (sym three) ∙ e)) in
+    let c = one_more_digit (word / 2 ^ 8 / 2 ^ 8) 127 1 128 d (λ e. none.second (ap (λ n. n % 2 ^ 8) (sym two) ∙ e)) in
+    let b = one_more_digit (word / 2 ^ 8) 32639 257 32896 c none.third in
+    one_more_digit word 8355711 65793 8421504 b (λ e. none.last (ap (λ n. n % 2 ^ 8) whole ∙ e))
 
 -- the bytes of the low four bytes of a number are the number's own
 pub word_no_ff : (n : ℕ) → HasNoFf (n % 2 ^ 32) → HasNoFf n

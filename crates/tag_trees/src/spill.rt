@@ -1,5 +1,5 @@
 // The bits behind whole bytes, as a number.
-ghost use Rattle.std.specs.Prelude.{◌≡◌, ◌+◌, ◌*◌, ◌/◌, ◌%◌, ◌<◌, ◌≤◌, ◌^◌, IsTrue};
+ghost use Rattle.std.specs.Prelude.{◌≡◌, ◌+◌, ◌*◌, ◌/◌, ◌%◌, ◌<◌, ◌≤◌, ◌^◌, ◌↔◌, IsTrue};
 ghost use Rattle.tag_trees.specs.BitState.{HasNoFf};
 
 // The bits of a byte begun, and those of a number behind them.
@@ -55,7 +55,7 @@ pub fn low_bits(held: u64, left: u32) -> u64
 #[inline]
 pub fn has_no_ff(word: u64) -> bool
     requires { word < 2 ^ 32 }
-    ensures { IsTrue result → HasNoFf word }
+    ensures { IsTrue result ↔ HasNoFf word }
 {
     ((word & 0x7f7f_7f7f) + 0x0101_0101) & word & 0x8080_8080 == 0
 }
