@@ -13,7 +13,8 @@ pub struct MainHeader {
     pub width: u32,
     /// Ysiz, the height of the frame in samples. The one tile is as high.
     pub height: u32,
-    /// How many levels of the wavelet transform there are: 5 or 6.
+    /// How many levels of the wavelet transform there are. A header that is written has the profile's, 5 for
+    /// 2K and 6 for 4K.
     pub levels: u8,
     /// The field of COD for the component transform (Table A.17): 0 where there is none, 1 where
     /// components 0, 1 and 2 are transformed, by the irreversible transform with the 9-7 wavelet.

@@ -11,6 +11,9 @@ use arrayvec::ArrayVec;
 
 /// The bytes of a main header: 129 of the 2K profile, 169 of the 4K profile. The places of the lengths of
 /// the tile-parts aren't looked at.
+///
+/// The sizes are within the profile's, the levels and the number of tile-parts are the profile's, the flag
+/// is 1, and there is a step for each band: guard bits at most 7, exponents below 32, mantissas below 2,048.
 pub fn main_bytes(m: &MainHeader) -> ArrayVec<u8, 192>
     requires some_width { 1 ≤ m.now.width }
     requires width { m.now.width ≤ max_width_of m.now.profile }

@@ -8,7 +8,7 @@ ghost use Rattle.encode_cli.specs.Words.{texts, AreGood};
 ghost use Rattle.encode_cli.specs.Stop.{counts};
 ghost use Rattle.encode_cli.specs.Visit.{is_refused, IsWritable};
 ghost use Rattle.encode_cli.specs.Progress.{visits_of, kept_after, said_after};
-ghost use Rattle.encode_cli.specs.Run.{StopsAt, HasStatusCause};
+ghost use Rattle.encode_cli.specs.Run.{AreShort, StopsAt, HasStatusCause};
 
 use crate::visits::visit_all;
 use crate::words::are_good;
@@ -28,7 +28,7 @@ fn visited_status(some_refused: bool) -> u8
 /// The answer is the status: 0 where all frames were visited and none was refused, 1 where all were and some
 /// was, 2 where the words are no command, 3, 4 and 5 where a call of the source, the outputs and the report
 /// failed, and 6 where memory was wanting. A fault or want of memory ends the run at once.
-#[tactic(auto, using(crate::proofs::Limits::all_within))]
+#[tactic(auto, using(crate::proofs::Limits::all_within, crate::proofs::Limits::come_short, crate::proofs::Limits::broken_short, crate::proofs::Limits::none_short))]
 pub fn run<F: Frames, O: Outputs, S: Report>(
     alloc: Global,
     words: &[String],
@@ -55,8 +55,11 @@ pub fn run<F: Frames, O: Outputs, S: Report>(
     ensures refusals { result ≤ 1 → (files : List File) → (F.source frames.old).files ≡ Some files →
         ((result ≡ 1) ↔ IsTrue (list_any is_refused (visits_of files))) }
 
-    // Whatever the status, every codestream that is written is within the byte limits.
+    // Whatever the status, no output is longer than a codestream may be; and the codestreams that the other
+    // clauses speak of are within the limits of the components too.
     ensures limits { (files : List File) → (F.source frames.old).files ≡ Some files →
+        IfSome (O.kept outputs.new) AreShort }
+    ensures writable { (files : List File) → (F.source frames.old).files ≡ Some files →
         AllByRecursion IsWritable (visits_of files) }
 
     // Status 3 to 6: the run broke off at the frame that was asked for last.
