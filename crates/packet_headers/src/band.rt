@@ -30,7 +30,8 @@ fn leaf_zero_planes(entry: &Entry, planes: u8) -> u8
     planes
 }
 
-// A band of one block has no nodes above it, and one of at most 2 by 2 blocks none above the quarter's.
+// The least zero planes of the nodes above a band's blocks, and 0 for a node that isn't there: a band of one block
+// has no nodes above it, and one of at most 2 by 2 blocks none above the quarter's.
 fn above_of(band: &PacketBand) -> BandAbove
     requires { CanWriteBand band.now }
     ensures stand { AboveStands (written_trees band.now) (above_at band.now.planes result.top) (map (above_at band.now.planes) result.middle) }
@@ -57,7 +58,7 @@ fn above_of(band: &PacketBand) -> BandAbove
     BandAbove { top, middle }
 }
 
-// The marks of a band of which nothing is written.
+// The marks of a band of which nothing is written. A node that the band doesn't have counts as written.
 fn fresh_marks(band: &PacketBand) -> BandMarks
     ensures stand { MarksStand (written_trees band.now) [] result.visited result.beyond }
     ensures visited { TopFirst result.visited }
