@@ -1,5 +1,5 @@
 // Writing a block.
-ghost use Rattle.std.specs.Prelude.{◌≡◌, ◌+◌, ◌-◌, ◌<◌, ◌≤◌, ◌^◌, [], ◌++◌, List, Bool, ℕ, not, ◌&&◌, true, IsTrue};
+ghost use Rattle.std.specs.Prelude.{◌≡◌, ◌+◌, ◌-◌, ◌<◌, ◌≤◌, ◌^◌, [], ◌++◌, List, Bool, ℕ, not, ◌&&◌, true, false, IsTrue};
 ghost use Rattle.tag_trees.specs.Bits.{number};
 ghost use Rattle.packet_headers.specs.Written.{CanWriteEntry};
 ghost use Rattle.packet_headers.specs.WriterState.{above_at, inclusion_list, zero_plane_list, mark_of, entry_list, Marked, MarkedIf};
@@ -43,7 +43,8 @@ fn inclusion_codeword(
         .with_bit_if(middle.included, included)
 }
 
-// These bits, and behind them those of an included block in the zero plane tree.
+// These bits, and behind them those of an included block in the zero plane tree, where the node above its quarter
+// isn't written.
 fn zero_plane_codeword(
     bits: Codeword,
     beyond: &mut Marks,
@@ -53,7 +54,7 @@ fn zero_plane_codeword(
     zero_planes: u8,
 ) -> Codeword
     requires quarter { quarter < 4 }
-    requires order { IsTrue (mark_of beyond.old quarter) → IsTrue beyond.old.top }
+    requires fresh { mark_of beyond.old quarter ≡ false }
     requires top { top ≤ middle }
     requires middle { middle ≤ zero_planes }
     requires few { zero_planes < 20 }
@@ -64,13 +65,10 @@ fn zero_plane_codeword(
     ensures few { result.width ≤ 25 }
     ensures marked { Marked beyond.old quarter beyond.new }
 {
-    if beyond.middle[quarter] {
-        return bits.with_zeros_if(true, zero_planes - middle);
-    }
     let first = beyond.mark_top();
-    let next = beyond.mark_middle(quarter);
+    beyond.middle[quarter] = true;
     bits.with_zeros_if(first, top)
-        .with_zeros_if(next, middle - top)
+        .with_zeros_if(true, middle - top)
         .with_zeros_if(true, zero_planes - middle)
 }
 
