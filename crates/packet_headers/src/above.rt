@@ -1,5 +1,5 @@
 // What the writer keeps of the nodes above the leaves of a band's two tag trees.
-ghost use Rattle.std.specs.Prelude.{◌≡◌, ℕ, ◌+◌, ◌<◌, ◌≤◌, not, ◌==◌, if◌then◌else◌, Bool, true, false, get_or};
+ghost use Rattle.std.specs.Prelude.{◌≡◌, not, true};
 
 // A node of both trees: whether a block under it is included, and the least zero planes of those under it.
 #[derive(Clone, Copy)]
@@ -40,18 +40,6 @@ impl Marks {
     {
         let first = !self.top;
         self.top = true;
-        first
-    }
-
-    // Marks the node above a quarter, and answers whether it wasn't marked.
-    pub fn mark_middle(&mut self, quarter: usize) -> bool
-        requires { quarter < 4 }
-        ensures first { result ≡ not (get_or self.old.middle quarter false) }
-        ensures top { self.new.top ≡ self.old.top }
-        ensures middle { (n : ℕ) → n < 4 → get_or self.new.middle n false ≡ (if quarter == n then true else get_or self.old.middle n false) }
-    {
-        let first = !self.middle[quarter];
-        self.middle[quarter] = true;
         first
     }
 }

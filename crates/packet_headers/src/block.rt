@@ -17,30 +17,24 @@ pub struct BandMarks {
     pub beyond: Marks,
 }
 
-// A block's bits in the inclusion tree.
-fn inclusion_codeword(
-    visited: &mut Marks,
-    quarter: usize,
-    top: Above,
-    middle: Above,
-    included: bool,
-) -> Codeword
+// The inclusion bits of a block that isn't included.
+fn left_out_codeword(visited: &mut Marks, quarter: usize, top: Above, middle: Above) -> Codeword
     requires quarter { quarter < 4 }
     requires order { IsTrue (mark_of visited.old quarter) → IsTrue visited.old.top }
-    ensures bits { number result.width result.value ≡ inclusion_list visited.old.top top.included (mark_of visited.old quarter) middle.included included }
+    ensures bits { number result.width result.value ≡ inclusion_list visited.old.top top.included (mark_of visited.old quarter) middle.included false }
     ensures fits { result.value < 2 ^ result.width }
     ensures few { result.width ≤ 3 }
     ensures marked { Marked visited.old quarter visited.new }
 {
     if visited.middle[quarter] {
-        return Codeword::none().with_bit_if(middle.included, included);
+        return Codeword::none().with_bit_if(middle.included, false);
     }
     let first = visited.mark_top();
-    let next = visited.mark_middle(quarter) && top.included;
+    visited.middle[quarter] = true;
     Codeword::none()
         .with_bit_if(first, top.included)
-        .with_bit_if(next, middle.included)
-        .with_bit_if(middle.included, included)
+        .with_bit_if(top.included, middle.included)
+        .with_bit_if(middle.included, false)
 }
 
 // These bits, and behind them those of an included block in the zero plane tree, where the node above its quarter
@@ -168,12 +162,11 @@ pub fn put_block<S: BitSink>(
     ensures beyond { MarkedIf entry.now.included marks.old.beyond quarter marks.new.beyond }
 {
     if !entry.included {
-        let inclusion = inclusion_codeword(
+        let inclusion = left_out_codeword(
             &mut marks.visited,
             quarter,
             Above::at(top, planes),
             Above::at(middle, planes),
-            false,
         );
         out.put_number(inclusion.width, inclusion.value);
         return;
