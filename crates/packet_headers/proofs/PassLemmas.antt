@@ -77,7 +77,7 @@ word_is n m = elim (cases_lt 1 n) [
 
 -- a row says so
 row_fits : ℕ → PassRow → Bool
-row_fits n row = eqb row.value (word_value n) && (eqb row.bits (word_width n + (row.log + 2)) && eqb row.log (1 + bit_len n))
+row_fits n row = eqb row.value (word_value n) && (eqb row.bits_in_all (word_width n + (row.most_log + 2)) && eqb row.most_log (1 + bit_len n))
 
 rows_fit : ℕ → List PassRow → Bool
 rows_fit n [] = true
@@ -96,21 +96,21 @@ row_at (row ∷ rows) n (suc k) d h l =
     rw z (row_at rows (n + 1) k d (both (row_fits n row) (rows_fit (n + 1) rows) h).1 (omega arith))
 
 pub record RowIs (n : ℕ) (row : PassRow) : Type 0 where
-  pub bits : number (row.bits - (row.log + 2)) row.value ≡ pass_bits n
-  pub fits : row.value < 2 ^ (row.bits - (row.log + 2))
-  pub some : row.log + 2 ≤ row.bits
-  pub few : row.bits - (row.log + 2) ≤ 16
-  pub short : n ≤ 36 → row.bits - (row.log + 2) ≤ 9
-  pub log : row.log ≡ 1 + bit_len n
+  pub bits : number (row.bits_in_all - (row.most_log + 2)) row.value ≡ pass_bits n
+  pub fits : row.value < 2 ^ (row.bits_in_all - (row.most_log + 2))
+  pub some : row.most_log + 2 ≤ row.bits_in_all
+  pub few : row.bits_in_all - (row.most_log + 2) ≤ 16
+  pub short : n ≤ 36 → row.bits_in_all - (row.most_log + 2) ≤ 9
+  pub log : row.most_log ≡ 1 + bit_len n
 
 row_says : (n : ℕ) (row : PassRow) → n ≤ 164 → row_fits n row ≡ true → RowIs n row
 unfolding row_fits
 row_says n row m h =
-    let a = both (eqb row.value (word_value n)) (eqb row.bits (word_width n + (row.log + 2)) && eqb row.log (1 + bit_len n)) h in
-    let b = both (eqb row.bits (word_width n + (row.log + 2))) (eqb row.log (1 + bit_len n)) a.1 in
+    let a = both (eqb row.value (word_value n)) (eqb row.bits_in_all (word_width n + (row.most_log + 2)) && eqb row.most_log (1 + bit_len n)) h in
+    let b = both (eqb row.bits_in_all (word_width n + (row.most_log + 2))) (eqb row.most_log (1 + bit_len n)) a.1 in
     let v = eqb-true row.value (word_value n) a.0 in
-    let t = eqb-true row.bits (word_width n + (row.log + 2)) b.0 in
-    let w : row.bits - (row.log + 2) ≡ word_width n = omega arith in
+    let t = eqb-true row.bits_in_all (word_width n + (row.most_log + 2)) b.0 in
+    let w : row.bits_in_all - (row.most_log + 2) ≡ word_width n = omega arith in
     let i = word_is n m in
     record {
       bits = ap (λ k. number k row.value) w ∙ ap (λ k. number (word_width n) k) v ∙ i.bits;
@@ -118,12 +118,12 @@ row_says n row m h =
       some = omega arith;
       few = rw w i.few;
       short = λ k. rw w (i.short k);
-      log = eqb-true row.log (1 + bit_len n) b.1;
+      log = eqb-true row.most_log (1 + bit_len n) b.1;
     }
 
 -- the table of the code
 abbrev pub line : ℕ → ℕ → ℕ → PassRow
-line value bits log = record { value = value; bits = bits; log = log }
+line value bits log = record { value = value; bits_in_all = bits; most_log = log }
 
 unfoldable pub pass_table : List PassRow
 pass_table =

@@ -101,9 +101,10 @@ pub fn numbers_codeword(passes: u8, len: u32) -> Codeword
 {
     let row = pass_row(passes);
     let pass_value = u64::from(row.value);
-    let least = u32::from(row.bits);
-    let most = u32::from(row.log);
+    let least = u32::from(row.bits_in_all);
+    let most = u32::from(row.most_log);
     let bytes = u64::from(len);
+    // `| 1` changes no length's logarithm, and saves the instruction that the bit length of 0 takes
     let log = u32::from(bit_len(len | 1)) - 1;
     let raise = log.saturating_sub(most);
     Codeword {

@@ -108,10 +108,10 @@ fn packet_of(first: PacketBand, second: PacketBand, third: PacketBand) -> Packet
 #[test]
 fn codewords_of_36_and_37_passes(rt: HostRuntime) {
     let nine_bits = pass_row(36);
-    assert_eq!(rt; nine_bits.bits - (nine_bits.log + 2), 9);
+    assert_eq!(rt; nine_bits.bits_in_all - (nine_bits.most_log + 2), 9);
     assert_eq!(rt; nine_bits.value, 0b1_1111_1110);
     let sixteen_bits = pass_row(37);
-    assert_eq!(rt; sixteen_bits.bits - (sixteen_bits.log + 2), 16);
+    assert_eq!(rt; sixteen_bits.bits_in_all - (sixteen_bits.most_log + 2), 16);
     assert_eq!(rt; sixteen_bits.value, 0b1111_1111_1000_0000);
 }
 

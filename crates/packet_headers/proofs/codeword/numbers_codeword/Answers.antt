@@ -4,8 +4,8 @@ use Rattle.packet_headers.proofs.codeword.numbers_codeword.Goals as goal
 use Rattle.packet_headers.proofs.codeword.numbers_codeword.Goals.{After-saturating_sub-raise}
 
 parts : (c : After-saturating_sub-raise)
-    → NumbersParts c.args.passes c.args.len (c.pass_row-row.result.now.bits - (c.pass_row-row.result.now.log + 2)) c.pass_row-row.result.now.value (c.pass_row-row.result.now.log + 1) c.saturating_sub-raise.result
-    (c.pass_row-row.result.now.log + 1 + c.saturating_sub-raise.result)
+    → NumbersParts c.args.passes c.args.len (c.pass_row-row.result.now.bits_in_all - (c.pass_row-row.result.now.most_log + 2)) c.pass_row-row.result.now.value (c.pass_row-row.result.now.most_log + 1) c.saturating_sub-raise.result
+    (c.pass_row-row.result.now.most_log + 1 + c.saturating_sub-raise.result)
 parts c = record {
   bits = c.pass_row-row.ensures.bits;
   v_fits = c.pass_row-row.ensures.fits;
@@ -17,10 +17,10 @@ parts c = record {
 
 -- all bits, and those behind the raises
 all : (c : After-saturating_sub-raise) → c.from-least.result + c.saturating_sub-raise.result + c.saturating_sub-raise.result
-    ≡ c.pass_row-row.result.now.bits - (c.pass_row-row.result.now.log + 2) + c.saturating_sub-raise.result + 1 + (c.pass_row-row.result.now.log + 1 + c.saturating_sub-raise.result)
+    ≡ c.pass_row-row.result.now.bits_in_all - (c.pass_row-row.result.now.most_log + 2) + c.saturating_sub-raise.result + 1 + (c.pass_row-row.result.now.most_log + 1 + c.saturating_sub-raise.result)
 all c = omega (arith, c.from-least.ensures, c.pass_row-row.ensures.some)
 
-behind : (c : After-saturating_sub-raise) → c.from-most.result + c.saturating_sub-raise.result + 2 ≡ c.pass_row-row.result.now.log + 1 + c.saturating_sub-raise.result + 1
+behind : (c : After-saturating_sub-raise) → c.from-most.result + c.saturating_sub-raise.result + 2 ≡ c.pass_row-row.result.now.most_log + 1 + c.saturating_sub-raise.result + 1
 behind c = omega (arith, c.from-most.ensures)
 
 pub overflow_sub-log : goal.overflow_sub-log
