@@ -1,0 +1,6 @@
+pub mod Asks
+pub mod Cells
+pub mod Contexts
+pub mod Laws
+pub mod Meaning
+pub mod Passes
