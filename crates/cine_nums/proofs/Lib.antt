@@ -1,3 +1,5 @@
 pub mod BitLength
+pub mod ByteLemmas
+pub mod FaultLemmas
 pub mod Levels
 mod Product

@@ -1,5 +1,10 @@
 pub mod Bits
+pub mod Bytes
+pub mod Coding
 pub mod Division
+pub mod Faults
 pub mod Fixed
 pub mod Levels
+pub mod Limits
 pub mod Profile
+pub mod Segments

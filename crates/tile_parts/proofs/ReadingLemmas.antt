@@ -1,7 +1,7 @@
 -- What stands at a marker's place, and where the segments end.
 use Rattle.std.proofs.Common.{◌≡◌, ℕ, zero, suc, ◌+◌, ◌<◌, ◌≤◌, List, Option, Some, None, Result, Ok, Err, MatchResult, inl, inr, arith, ◌∙◌, sym, ap, refl, subst}
 use Rattle.std.proofs.lemmas.Bool.Decides.{nat_tests}
-use Rattle.tile_parts.specs.Bytes.{word_at, long_at}
+use Rattle.cine_nums.specs.Bytes.{word_at, long_at}
 use Rattle.tile_parts.specs.Reading.{marker_at, Passes, Ends, IsPart, IsFault}
 use Rattle.tile_parts.specs.declared.part.Part.{Part}
 use Rattle.tile_parts.specs.declared.refusal.PartRefusal.{PartRefusal}

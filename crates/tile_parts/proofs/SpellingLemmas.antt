@@ -1,37 +1,18 @@
 -- The tile-part that its bytes spell is the one that is read, and the other way round.
 use Rattle.std.proofs.Common.{◌≡◌, ℕ, zero, suc, ◌+◌, ◌-◌, ◌*◌, ◌/◌, ◌%◌, ◌<◌, ◌≤◌, ◌⊎◌, inl, inr, Bool, true, false, ◌==◌, List, [], ◌∷◌, ◌++◌, None, Some, Result, Ok, Err, MatchResult, IfOk, arith, ◌∙◌, sym, ap, refl, subst, append_assoc, get_or, take, drop, length, add-zero}
 use Rattle.std.specs.List.{flat_map, All}
-use Rattle.std.proofs.lemmas.List.{get_or-drop, drop_more, drop_at, length-append, length-drop, length-take-le, take-append-drop}
+use Rattle.std.proofs.lemmas.List.{drop_more, length-append, length-drop, length-take-le, take-append-drop}
 use Rattle.std.proofs.lemmas.List.Elements.{All-nil, All-cons}
 use Rattle.std.proofs.lemmas.Bool.Decides.{nat_tests}
-use Rattle.tile_parts.specs.Bytes.{word_at, long_at, word_bytes, long_bytes}
+use Rattle.cine_nums.specs.Bytes.{word_at, long_at, word_bytes, long_bytes}
 use Rattle.tile_parts.specs.Head.{sot_bytes, sod_bytes}
 use Rattle.tile_parts.specs.Reading.{marker_at, is_passed, Passes, Ends, IsPart, IsFault, sot_fault}
-use Rattle.tile_parts.specs.Spelling.{Segment, IsSegment, segment_bytes, head_with, Spells}
+use Rattle.tile_parts.specs.Spelling.{IsSegment, head_with, Spells}
+use Rattle.cine_nums.specs.Segments.{Segment, segment_bytes}
+use Rattle.cine_nums.proofs.ByteLemmas.{byte_here, first_here, step_on, word_again, long_again}
 use Rattle.tile_parts.specs.declared.part.Part.{Part}
 use Rattle.tile_parts.specs.declared.refusal.PartRefusal.{PartRefusal}
 use Rattle.tile_parts.proofs.ReadingLemmas.{sod_inside, sod_there}
-
--- a byte behind a place, found in what stands there
-byte_here : (bytes xs : List ℕ) (p k : ℕ) → drop p bytes ≡ xs → get_or bytes (p + k) 0 ≡ get_or xs k 0
-byte_here bytes xs p k is = sym (get_or-drop p bytes k 0) ∙ ap (λ t. get_or t k 0) is
-
-first_here : (bytes xs : List ℕ) (p : ℕ) → drop p bytes ≡ xs → get_or bytes p 0 ≡ get_or xs 0 0
-first_here bytes xs p is = ap (λ q. get_or bytes q 0) (sym (add-zero p)) ∙ byte_here bytes xs p 0 is
-
--- what stands behind a front
-step_on : (bytes front back : List ℕ) (p : ℕ) → p ≤ length bytes → drop p bytes ≡ front ++ back →
-    drop (p + length front) bytes ≡ back
-step_on bytes front back p below is =
-    let whole : bytes ≡ (take p bytes ++ front) ++ back =
-    sym (take-append-drop p bytes) ∙ ap (λ t. take p bytes ++ t) is ∙ sym (append_assoc (take p bytes) front back) in
-    let width : length (take p bytes ++ front) ≡ p + length front =
-    length-append (take p bytes) front ∙ ap (λ n. n + length front) (length-take-le p bytes below) in
-    ap (drop (p + length front)) whole ∙ drop_at (take p bytes ++ front) back (p + length front) width
-
--- four bytes give their number back
-long_again : (n : ℕ) → (n / 16777216 * 256 + n / 65536 % 256) * 65536 + (n / 256 % 256 * 256 + n % 256) ≡ n
-long_again n = omega arith
 
 -- From bytes to the tile-part that they are read as.
 
@@ -76,9 +57,6 @@ no_sot_fault bytes at size index count told large inside (inr same) is = grind (
 
 sod_here : (bytes : List ℕ) (at stop : ℕ) → at + 2 ≤ stop → word_at bytes at ≡ 0xFF93 → marker_at bytes stop at ≡ Ok None
 sod_here bytes at stop inside is = grind (arith, nat_tests)
-
-word_again : (n : ℕ) → n / 256 * 256 + n % 256 ≡ n
-word_again n = omega arith
 
 -- the width of a segment
 segment_width : (s : Segment) → length (segment_bytes s) ≡ 4 + length s.content

@@ -1,6 +1,6 @@
 -- The writer's head of a tile-part: the segment SOT and the marker SOD (ISO/IEC 15444-1, A.4.2, A.4.3).
 use Rattle.std.specs.Prelude.{ℕ, List, [], ◌∷◌, ◌++◌}
-use Rattle.tile_parts.specs.Bytes.{long_bytes}
+use Rattle.cine_nums.specs.Bytes.{long_bytes}
 
 -- the segment SOT of tile 0: FF90, Lsot 10, Isot 0, Psot, TPsot, TNsot
 abbrev pub sot_bytes : ℕ → ℕ → ℕ → List ℕ

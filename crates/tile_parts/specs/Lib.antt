@@ -1,4 +1,3 @@
-pub mod Bytes
 pub mod Head
 pub mod Reading
 pub mod Spelling

@@ -1,7 +1,7 @@
 -- What stands at a place of a string of bytes that is to be a tile-part (ISO/IEC 15444-1, A.4.2,
 -- A.4.3, A.7.3, A.9.2). Refusals and their order are those of the docstring of `read_part`.
 use Rattle.std.specs.Prelude.{ℕ, zero, suc, Bool, ◌⊎◌, ◌+◌, ◌≡◌, ◌==◌, ◌||◌, List, length, slice_index, nat_lt, not, if◌then◌else◌, Option, Some, None, Result, Ok, Err}
-use Rattle.tile_parts.specs.Bytes.{word_at, long_at}
+use Rattle.cine_nums.specs.Bytes.{word_at, long_at}
 use Rattle.tile_parts.specs.declared.refusal.PartRefusal.{PartRefusal}
 use Rattle.tile_parts.specs.declared.refusal.PartRefusal.TheVariants.{BadTilePart, PsotZero, TilePartMarker}
 use Rattle.tile_parts.specs.declared.part.Part.{Part}

@@ -2,23 +2,14 @@
 -- (ISO/IEC 15444-1, A.4.2, A.4.3, A.7.3, A.9.2).
 use Rattle.std.specs.Prelude.{ℕ, ◌+◌, ◌≡◌, ◌<◌, ◌⊎◌, List, ◌++◌, length, drop}
 use Rattle.std.specs.List.{flat_map, All}
-use Rattle.tile_parts.specs.Bytes.{word_bytes}
+use Rattle.cine_nums.specs.Segments.{Segment, segment_bytes}
 use Rattle.tile_parts.specs.Head.{sot_bytes, sod_bytes}
 use Rattle.tile_parts.specs.declared.part.Part.{Part}
 
--- a segment between SOT and SOD: its marker, and what stands behind its length
-pub record Segment : Type 0 where
-  pub marker : ℕ
-  pub content : List ℕ
-
--- it is COM or PLT, and its length, which counts itself, has 16 bits
+-- a segment between SOT and SOD is COM or PLT, and its length, which counts itself, has 16 bits
 pub record IsSegment (s : Segment) : Type 0 where
   pub marker : (s.marker ≡ 0xFF64) ⊎ (s.marker ≡ 0xFF58)
   pub short : length s.content + 2 < 65536
-
--- its bytes
-abbrev pub segment_bytes : Segment → List ℕ
-segment_bytes s = word_bytes s.marker ++ (word_bytes (length s.content + 2) ++ s.content)
 
 -- the head of a tile-part with these segments
 abbrev pub head_with : ℕ → ℕ → ℕ → List Segment → List ℕ

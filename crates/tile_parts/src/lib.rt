@@ -11,7 +11,6 @@
 //! ```
 #![tactic(auto)]
 
-mod bytes;
 mod head;
 mod part;
 mod refusal;

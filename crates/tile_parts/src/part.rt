@@ -1,15 +1,15 @@
 // Reading the head of a tile-part.
 ghost use Rattle.std.specs.Prelude.{◌≡◌, ◌+◌, ◌≤◌, ◌<◌, ◌^◌, ℕ, length, slice_range};
 ghost use Rattle.std.specs.Prelude.{None, Some, Ok, Err, IfOk, IfErr, MatchResult};
-ghost use Rattle.tile_parts.specs.Bytes.{long_at};
+ghost use Rattle.cine_nums.specs.Bytes.{long_at};
 ghost use Rattle.tile_parts.specs.Head.{part_head_of};
 ghost use Rattle.tile_parts.specs.Reading.{sot_fault, marker_at, Ends, IsPart, IsFault};
 ghost use Rattle.tile_parts.specs.Spelling.{Spells};
 ghost use Rattle.tile_parts.specs.declared.refusal.PartRefusal.{PartRefusal};
 ghost use Rattle.tile_parts.specs.declared.part.Part.{Part};
 
-use crate::bytes::{long, word};
 use crate::refusal::PartRefusal;
+use cine_nums::{long_at, word_at};
 
 const SOT: u16 = 0xFF90;
 
@@ -87,16 +87,16 @@ fn read_sot(bytes: &[u8], at: u32, index: u8, count: u8) -> Result<u32, PartRefu
     ensures fault { IfErr result (λ e. sot_fault bytes.now at index count ≡ Some e) }
 {
     let place = at as usize;
-    if bytes.len() < place + 12 || word(bytes, place) != SOT {
+    if bytes.len() < place + 12 || word_at(bytes, place) != SOT {
         return Err(PartRefusal::BadTilePart(at));
     }
-    if word(bytes, place + 2) != 10 {
+    if word_at(bytes, place + 2) != 10 {
         return Err(PartRefusal::BadTilePart(at + 2));
     }
-    if word(bytes, place + 4) != 0 {
+    if word_at(bytes, place + 4) != 0 {
         return Err(PartRefusal::BadTilePart(at + 4));
     }
-    let psot = long(bytes, place + 6);
+    let psot = long_at(bytes, place + 6);
     if psot == 0 {
         return Err(PartRefusal::PsotZero(at + 6));
     }
@@ -137,7 +137,7 @@ fn marker(bytes: &[u8], at: u32, stop: u32) -> Result<Option<u32>, PartRefusal>
     if stop - at < 2 {
         return Err(PartRefusal::BadTilePart(at));
     }
-    let marker = word(bytes, place);
+    let marker = word_at(bytes, place);
     if marker == SOD {
         return Ok(None);
     }
@@ -147,7 +147,7 @@ fn marker(bytes: &[u8], at: u32, stop: u32) -> Result<Option<u32>, PartRefusal>
     if stop - at < 4 {
         return Err(PartRefusal::BadTilePart(at));
     }
-    let length = u32::from(word(bytes, place + 2));
+    let length = u32::from(word_at(bytes, place + 2));
     if length < 2 || stop - at - 2 < length {
         return Err(PartRefusal::BadTilePart(at));
     }

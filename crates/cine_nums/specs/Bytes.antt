@@ -1,4 +1,4 @@
--- Numbers as bytes, the high byte first (ISO/IEC 15444-1, A.1).
+-- Numbers as bytes, the high byte first (ISO/IEC 15444-1, A.1.3).
 use Rattle.std.specs.Prelude.{ℕ, ◌+◌, ◌*◌, ◌/◌, ◌%◌, List, [], ◌∷◌, slice_index}
 
 -- the number of 16 bits at a place
