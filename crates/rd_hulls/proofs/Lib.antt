@@ -1,0 +1,4 @@
+pub mod Counts
+pub mod Corners
+pub mod Lines
+pub mod Scan
