@@ -9,8 +9,8 @@ use Rattle.std.proofs.lemmas.Nat.{pow-add}
 use Rattle.std.proofs.Math.Pow.{pow_mono}
 use Rattle.cine_nums.specs.Bits.{bit_len}
 use Rattle.cine_nums.proofs.BitLength.{bit_len-above, bit_len-below, bit_len-within, bit_len-monotone, bit_len-unique}
-use Rattle.tag_trees.specs.Bits.{number}
-use Rattle.tag_trees.proofs.SpillLemmas.{number-join, join_below, one_fits}
+use Rattle.bit_stuffing.specs.Bits.{number}
+use Rattle.bit_stuffing.proofs.RegisterLemmas.{number-join, join_below, one_fits}
 use Rattle.packet_headers.specs.Codewords.{pass_bits, length_bits, length_width, least_raise}
 
 -- ones

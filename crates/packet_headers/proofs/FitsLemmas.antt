@@ -17,7 +17,7 @@ use Rattle.packet_headers.specs.Words.{leaf_at, packet_of, band_of}
 use Rattle.packet_headers.specs.Grammar.{FitsAs, BlocksFit, BandFits, BandsFit, NoneOf, NoneOfBands, WordsFit}
 use Rattle.packet_headers.specs.Written.{inclusion_value, zero_plane_value, written_block, written_trees, written_band, written, band_has_any, shape_of, shapes_of, CanWriteIncluded, CanWriteEntry, CanWriteBand, CanWrite, IsPlain, ArePlain, written_bits}
 use Rattle.packet_headers.specs.Reading.{HasHeader}
-use Rattle.tag_trees.specs.Stuffing.{Stuffs}
+use Rattle.bit_stuffing.specs.Stuffing.{Stuffs}
 use Rattle.packet_headers.proofs.BandLemmas.{inside}
 use Rattle.packet_headers.proofs.EntryLemmas.{leaf_value}
 use Rattle.packet_headers.proofs.CodewordLemmas.{length_widths}

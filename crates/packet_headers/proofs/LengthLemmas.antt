@@ -4,10 +4,10 @@ use Rattle.std.specs.Prelude.{◌⊎◌, ◌==◌, if◌then◌else◌}
 use Rattle.std.proofs.lemmas.Bool.{cases_eq, eq-eqb, ne_eqb}
 use Rattle.std.proofs.lemmas.List.{length_push}
 use Rattle.std.proofs.Math.Nat.{pow-suc, mul-le-mul_right}
-use Rattle.tag_trees.specs.Bits.{bit_value, value_from, value, width_behind}
-use Rattle.tag_trees.specs.Stuffing.{closing, packed_from, packed}
-use Rattle.tag_trees.specs.BitState.{Counts}
-use Rattle.tag_trees.proofs.BitLemmas.{bit_le}
+use Rattle.bit_stuffing.specs.Bits.{bit_value, value_from, value, byte_width}
+use Rattle.bit_stuffing.specs.Stuffing.{closing, packed_from, packed}
+use Rattle.bit_stuffing.specs.State.{Counts}
+use Rattle.bit_stuffing.proofs.BitLemmas.{bit_le}
 use Rattle.packet_headers.specs.Words.{PacketWords, bands_bits, header_words}
 
 value_below : (n : ℕ) (bits : List Bool) → value_from n bits < (n + 1) * 2 ^ length bits
@@ -32,22 +32,22 @@ closing_few width [] h (inl e) = let t : eqb width 7 ≡ true = eq-eqb width 7 e
 closing_few width [] h (inr e) = let t : eqb width 7 ≡ false = ne_eqb width 7 (λ k. omega arith) in rw t (omega arith)
 closing_few width (bit ∷ begun) h w = omega arith
 
-width_cases : (b : Bool) → (width_behind b ≡ 7) ⊎ (width_behind b ≡ 8)
+width_cases : (b : Bool) → (byte_width b ≡ 7) ⊎ (byte_width b ≡ 8)
 width_cases true = inl refl
 width_cases false = inr refl
 
-width_some : (b : Bool) → 0 < width_behind b
+width_some : (b : Bool) → 0 < byte_width b
 width_some true = omega arith
 width_some false = omega arith
 
 -- a byte more
 packed_full : (width : ℕ) (begun : List Bool) (bit : Bool) (bits : List Bool) → length begun + 1 ≡ width → (width ≡ 7) ⊎ (width ≡ 8)
-    → (next : ℕ) → next ≡ width_behind (value (begun ++ bit ∷ []) == 255) → 15 * length (packed_from next [] bits) ≤ 2 * (0 + length bits) + 14 + (8 - next)
+    → (next : ℕ) → next ≡ byte_width (value (begun ++ bit ∷ []) == 255) → 15 * length (packed_from next [] bits) ≤ 2 * (0 + length bits) + 14 + (8 - next)
     → 15 * (1 + length (packed_from next [] bits)) ≤ 2 * (length begun + suc (length bits)) + 14 + (8 - width)
 packed_full width begun bit bits e (inl w) next n h =
     let l = length_push begun bit in
     let f = seven_below (begun ++ bit ∷ []) (omega arith) in
-    let k : next ≡ 8 = n ∙ ap width_behind f in
+    let k : next ≡ 8 = n ∙ ap byte_width f in
     omega arith
 packed_full width begun bit bits e (inr w) next n h = elim (width_cases (value (begun ++ bit ∷ []) == 255)) [
   | inl a ↦ omega arith
@@ -62,9 +62,9 @@ packed_few width begun [] h w = let c = closing_few width begun h w in omega ari
 packed_few width begun (bit ∷ bits) h w = elim (cases_eq (length begun + 1) width) [
   | inl e ↦
       let t : eqb (length begun + 1) width ≡ true = eq-eqb (length begun + 1) width e in
-      let next = width_behind (value (begun ++ bit ∷ []) == 255) in
-      let k = packed_full width begun bit bits e w (width_behind (value (begun ++ bit ∷ []) == 255)) refl
-      (packed_few (width_behind (value (begun ++ bit ∷ []) == 255)) [] bits (width_some (value (begun ++ bit ∷ []) == 255)) (width_cases (value (begun ++ bit ∷ []) == 255))) in
+      let next = byte_width (value (begun ++ bit ∷ []) == 255) in
+      let k = packed_full width begun bit bits e w (byte_width (value (begun ++ bit ∷ []) == 255)) refl
+      (packed_few (byte_width (value (begun ++ bit ∷ []) == 255)) [] bits (width_some (value (begun ++ bit ∷ []) == 255)) (width_cases (value (begun ++ bit ∷ []) == 255))) in
       rw t (omega arith)
   | inr ne ↦
       let t : eqb (length begun + 1) width ≡ false = ne_eqb (length begun + 1) width ne in

@@ -3,7 +3,7 @@ use Rattle.std.proofs.Common.{◌≡◌, ℕ, suc, zero, ◌+◌, ◌*◌, ◌/�
 use Rattle.std.specs.Prelude.{◌==◌, ◌||◌, max, if◌then◌else◌}
 use Rattle.std.proofs.lemmas.Bool.{cases_eq, eq-eqb, ne_eqb, eqb-true}
 use Rattle.std.proofs.lemmas.List.{append-nil}
-use Rattle.tag_trees.specs.Bits.{bit_value}
+use Rattle.bit_stuffing.specs.Bits.{bit_value}
 use Rattle.tag_trees.specs.TagTree.{Writing, leaf_node, middle_node, levels_above, path_of, is_among, largest}
 use Rattle.tag_trees.proofs.TreePaths.{largest_push}
 use Rattle.tag_trees.proofs.LeastLemmas.{small_column}

@@ -3,9 +3,9 @@ use Rattle.std.proofs.Common.{◌≡◌, ℕ, suc, zero, ◌+◌, ◌-◌, ◌<�
 use Rattle.std.specs.Prelude.{not, ◌&&◌, max}
 use Rattle.std.proofs.lemmas.Bool.{lt-ltb, le-ltb}
 use Rattle.std.proofs.lemmas.List.{append-nil}
-use Rattle.tag_trees.specs.Bits.{number, bit_value}
+use Rattle.bit_stuffing.specs.Bits.{number, bit_value}
 use Rattle.tag_trees.specs.TagTree.{leaf_node, middle_node, path_of, node_bits, path_bits}
-use Rattle.tag_trees.proofs.SpillLemmas.{number-one}
+use Rattle.bit_stuffing.proofs.RegisterLemmas.{number-one}
 use Rattle.packet_headers.specs.WriterState.{Includes, IsBeyond, TopIncludes, TopVisited, TopLeast, TopBeyond, MiddleIncludes, MiddleVisited, MiddleLeast, MiddleBeyond, bit_if, zeros_if}
 
 -- a node of the inclusion tree, up to 1: it starts at 0 where the node above it includes a block

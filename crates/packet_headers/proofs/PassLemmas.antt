@@ -3,8 +3,8 @@ use Rattle.std.proofs.Common.{◌≡◌, ℕ, suc, zero, ◌+◌, ◌-◌, ◌^�
 use Rattle.std.specs.Prelude.{◌&&◌, nat_le, if◌then◌else◌, replicate}
 use Rattle.std.proofs.lemmas.Bool.{le-leb, lt-leb, cases_lt, eqb-true}
 use Rattle.cine_nums.specs.Bits.{bit_len}
-use Rattle.tag_trees.specs.Bits.{number}
-use Rattle.tag_trees.proofs.SpillLemmas.{number-join}
+use Rattle.bit_stuffing.specs.Bits.{number}
+use Rattle.bit_stuffing.proofs.RegisterLemmas.{number-join}
 use Rattle.packet_headers.specs.declared.passes.PassRow.{PassRow}
 use Rattle.packet_headers.specs.Codewords.{pass_bits}
 

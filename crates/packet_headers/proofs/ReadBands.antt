@@ -4,8 +4,8 @@ use Rattle.std.specs.Prelude.{◌⊎◌, if◌then◌else◌}
 use Rattle.std.proofs.lemmas.Bool.{cases_lt}
 use Rattle.std.proofs.lemmas.List.{append-nil, map-append, length-map}
 use Rattle.tag_trees.specs.TagTree.{Writing}
-use Rattle.tag_trees.specs.BitState.{BitSource, Took}
-use Rattle.tag_trees.specs.Stuffing.{fault_of}
+use Rattle.bit_stuffing.specs.Source.{BitSource, Took}
+use Rattle.bit_stuffing.specs.Stuffing.{fault_of}
 use Rattle.tag_trees.specs.TreeState.{width_of, height_of, Stands, Allows}
 use Rattle.tag_trees.specs.declared.tree.Tree.{Tree}
 use Rattle.tag_trees.proofs.TreePaths.{numbering_along}
@@ -20,8 +20,8 @@ use Rattle.packet_headers.specs.Reading.{refusal_of}
 use Rattle.packet_headers.specs.ReadSteps.{kept_entry, kept_entries, kept_band, Told, ToldFits, told_bits, Tells, ZeroPlanesStand, OfSides, FoundBlock, ToldBand, IsStop, ToldBandFits, told_band_bits, stop_refusal, TellsBand, FoundBand}
 use Rattle.packet_headers.specs.ReadSteps.Told.{block, all_zero, too_many}
 use Rattle.packet_headers.specs.ReadSteps.ToldBand.{whole, stopped}
-use Rattle.tag_trees.proofs.UptoLemmas.{took_more}
-use Rattle.packet_headers.proofs.ReadBits.{took_none, took_rest}
+use Rattle.bit_stuffing.proofs.SourceLemmas.{took_more}
+use Rattle.bit_stuffing.proofs.SourceLemmas.{took_none, took_rest}
 use Rattle.packet_headers.proofs.ReadCodes.{along}
 use Rattle.packet_headers.proofs.ReadIncluded.{took_less}
 use Rattle.packet_headers.proofs.BlockLemmas.{inclusion_writings-push}

@@ -2,13 +2,14 @@
 use Rattle.std.proofs.Common.{◌≡◌, ℕ, ◌+◌, ◌-◌, ◌<◌, ◌≤◌, ◌^◌, min, Bool, true, false, List, [], ◌∷◌, ◌++◌, length, refl, sym, ap, subst, ◌∙◌, inl, inr, arith, length-append}
 use Rattle.std.specs.Prelude.{◌⊎◌}
 use Rattle.std.proofs.lemmas.Bool.{cases_lt, le-leb, lt-leb}
-use Rattle.tag_trees.specs.Bits.{number, value, value_from}
-use Rattle.tag_trees.specs.BitState.{BitSource, Took}
+use Rattle.bit_stuffing.specs.Bits.{number, value, value_from}
+use Rattle.bit_stuffing.specs.Source.{BitSource, Took}
 use Rattle.packet_headers.specs.Codewords.{pass_bits}
 use Rattle.std.proofs.Math.Nat.{pow-le-pow_right}
-use Rattle.tag_trees.proofs.BitLemmas.{number-length}
-use Rattle.tag_trees.proofs.UptoLemmas.{took_more}
-use Rattle.packet_headers.proofs.ReadBits.{number_front, number_word, same_front, value-below}
+use Rattle.bit_stuffing.proofs.BitLemmas.{number-length}
+use Rattle.bit_stuffing.proofs.SourceLemmas.{took_more}
+use Rattle.packet_headers.proofs.ReadBits.{number_front, number_word, same_front}
+use Rattle.bit_stuffing.proofs.BitLemmas.{value-below}
 
 pub passes_one : pass_bits 1 ≡ false ∷ []
 unfolding pass_bits

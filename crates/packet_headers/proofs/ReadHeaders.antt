@@ -5,8 +5,8 @@ use Rattle.std.proofs.lemmas.Bool.{cases_Bool}
 use Rattle.std.proofs.lemmas.List.{length-replicate}
 use Rattle.std.proofs.Math.Seq.{take-length}
 use Rattle.tag_trees.specs.TagTree.{Ascends, levels_above, path_of}
-use Rattle.tag_trees.specs.BitState.{BitSource, Took}
-use Rattle.tag_trees.specs.declared.fault.BitFault.{BitFault}
+use Rattle.bit_stuffing.specs.Source.{BitSource, Took}
+use Rattle.bit_stuffing.specs.declared.fault.BitFault.{BitFault}
 use Rattle.packet_headers.specs.declared.entry.Entry.{Entry}
 use Rattle.packet_headers.specs.declared.packet.BandShape.{BandShape}
 use Rattle.packet_headers.specs.declared.packet.PacketBand.{PacketBand}
@@ -21,8 +21,8 @@ use Rattle.packet_headers.specs.ReadSteps.{last_place, no_entry, kept_entries, k
 use Rattle.packet_headers.specs.ReadSteps.Told.{block, all_zero, too_many}
 use Rattle.packet_headers.specs.ReadSteps.ToldBands.{wholes, halted}
 use Rattle.packet_headers.specs.ReadSteps.FoundHeader.{packet, zero_stop, pass_stop}
-use Rattle.tag_trees.proofs.UptoLemmas.{took_more}
-use Rattle.packet_headers.proofs.ReadBits.{took_rest}
+use Rattle.bit_stuffing.proofs.SourceLemmas.{took_more}
+use Rattle.bit_stuffing.proofs.SourceLemmas.{took_rest}
 use Rattle.packet_headers.proofs.ReadCodes.{along}
 use Rattle.packet_headers.proofs.ReadBlocks.{out_entry, out_fits}
 use Rattle.packet_headers.proofs.ReadBands.{band_with}

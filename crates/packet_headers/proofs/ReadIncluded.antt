@@ -3,10 +3,10 @@ use Rattle.std.proofs.Common.{◌≡◌, ℕ, ◌+◌, ◌-◌, ◌*◌, ◌/◌
 use Rattle.std.specs.Prelude.{◌⊎◌, if◌then◌else◌}
 use Rattle.std.proofs.lemmas.List.{append-nil}
 use Rattle.tag_trees.specs.TagTree.{Writing, leaf_node, bits_of_writing, IsNumbering}
-use Rattle.tag_trees.specs.BitState.{BitSource, Took}
+use Rattle.bit_stuffing.specs.Source.{BitSource, Took}
 use Rattle.tag_trees.specs.TreeState.{width_of, height_of, levels_of, Stands, Allows}
 use Rattle.tag_trees.specs.declared.tree.Tree.{Tree}
-use Rattle.tag_trees.specs.declared.fault.BitFault.{BitFault}
+use Rattle.bit_stuffing.specs.declared.fault.BitFault.{BitFault}
 use Rattle.tag_trees.proofs.TreePaths.{numbering_along}
 use Rattle.tag_trees.proofs.ReaderLemmas.{numbering_exists}
 use Rattle.packet_headers.specs.declared.entry.Entry.{Entry}
@@ -19,8 +19,8 @@ use Rattle.packet_headers.specs.Grammar.{most_passes, FitsAs, IsIncluded, TreesF
 use Rattle.packet_headers.specs.Reading.{refusal_of}
 use Rattle.packet_headers.specs.ReadSteps.{last_place, FoundZeroPlanes, kept_entry, Told, zero_planes_at, ToldFits, IsInside, inside_bits, Tells, OfSides, FoundInside}
 use Rattle.packet_headers.specs.ReadSteps.Told.{block, all_zero, too_many}
-use Rattle.tag_trees.proofs.UptoLemmas.{took_more}
-use Rattle.packet_headers.proofs.ReadBits.{took_rest}
+use Rattle.bit_stuffing.proofs.SourceLemmas.{took_more}
+use Rattle.bit_stuffing.proofs.SourceLemmas.{took_rest}
 use Rattle.packet_headers.proofs.BlockLemmas.{zero_plane_writings-push}
 use Rattle.packet_headers.proofs.ReadCodes.{along}
 use Rattle.packet_headers.proofs.ReadLengths.{length_same}

@@ -1,16 +1,17 @@
 -- The raises of Lblock and the length behind them.
 use Rattle.std.proofs.Common.{◌≡◌, ℕ, suc, zero, ◌+◌, ◌<◌, ◌≤◌, ◌^◌, min, Bool, true, false, List, [], ◌∷◌, ◌++◌, length, refl, sym, ap, ◌∙◌, arith, append_assoc, length-append}
 use Rattle.std.specs.Prelude.{replicate, Result, Ok, Err, IfOk, IfErr, IsOkAnd}
-use Rattle.tag_trees.specs.declared.fault.BitFault.{BitFault}
+use Rattle.bit_stuffing.specs.declared.fault.BitFault.{BitFault}
 use Rattle.std.proofs.lemmas.List.{append-nil}
 use Rattle.cine_nums.specs.Bits.{bit_len}
 use Rattle.cine_nums.proofs.BitLength.{bit_len-above}
-use Rattle.tag_trees.specs.Bits.{number, value}
-use Rattle.tag_trees.specs.BitState.{BitSource, Took}
-use Rattle.tag_trees.proofs.BitLemmas.{number-length}
+use Rattle.bit_stuffing.specs.Bits.{number, value}
+use Rattle.bit_stuffing.specs.Source.{BitSource, Took}
+use Rattle.bit_stuffing.proofs.BitLemmas.{number-length}
 use Rattle.packet_headers.specs.Codewords.{length_bits, length_width}
-use Rattle.tag_trees.proofs.UptoLemmas.{took_more}
-use Rattle.packet_headers.proofs.ReadBits.{number_front, number_word, same_front, value-below}
+use Rattle.bit_stuffing.proofs.SourceLemmas.{took_more}
+use Rattle.packet_headers.proofs.ReadBits.{number_front, number_word, same_front}
+use Rattle.bit_stuffing.proofs.BitLemmas.{value-below}
 use Rattle.packet_headers.proofs.ReadCodes.{along, Word}
 
 -- ones up to a zero, in one way

@@ -3,8 +3,8 @@ use Rattle.std.proofs.Common.{◌≡◌, ℕ, suc, zero, ◌+◌, ◌*◌, ◌<�
 use Rattle.std.specs.Prelude.{◌⊎◌}
 use Rattle.std.proofs.lemmas.Bool.{cases_lt}
 use Rattle.std.proofs.lemmas.List.{append-nil, map-append}
-use Rattle.tag_trees.specs.BitState.{BitSource, Took}
-use Rattle.tag_trees.specs.Stuffing.{fault_of}
+use Rattle.bit_stuffing.specs.Source.{BitSource, Took}
+use Rattle.bit_stuffing.specs.Stuffing.{fault_of}
 use Rattle.packet_headers.specs.declared.packet.BandShape.{BandShape}
 use Rattle.packet_headers.specs.declared.packet.PacketBand.{PacketBand}
 use Rattle.packet_headers.specs.declared.packet.Packet.{Packet}
@@ -16,8 +16,9 @@ use Rattle.packet_headers.specs.ReadSteps.{kept_band, kept_words, Told, ToldFits
 use Rattle.packet_headers.specs.ReadSteps.Told.{block, all_zero, too_many}
 use Rattle.packet_headers.specs.ReadSteps.ToldBand.{whole, stopped}
 use Rattle.packet_headers.specs.ReadSteps.ToldBands.{wholes, halted}
-use Rattle.tag_trees.proofs.UptoLemmas.{took_more}
-use Rattle.packet_headers.proofs.ReadBits.{took_none, took_rest, same_front}
+use Rattle.bit_stuffing.proofs.SourceLemmas.{took_more}
+use Rattle.bit_stuffing.proofs.SourceLemmas.{took_none, took_rest}
+use Rattle.packet_headers.proofs.ReadBits.{same_front}
 use Rattle.packet_headers.proofs.ReadCodes.{along}
 use Rattle.packet_headers.proofs.ReadIncluded.{took_less}
 use Rattle.packet_headers.proofs.HeaderLemmas.{bands_bits-push}

@@ -3,13 +3,13 @@ use Rattle.std.proofs.Common.{◌≡◌, ℕ, suc, zero, ◌+◌, ◌-◌, ◌*�
 use Rattle.std.specs.Prelude.{◌⊎◌, ◌==◌, if◌then◌else◌, sum_by}
 use Rattle.std.proofs.lemmas.List.{take-append-drop}
 use Rattle.std.proofs.lemmas.List.Sums.{sum_by-cons}
-use Rattle.tag_trees.specs.Bits.{number, useful, width_behind}
-use Rattle.tag_trees.specs.BitState.{BitSource, Took}
-use Rattle.tag_trees.specs.Stuffing.{Stuffs, supply, supply_from, is_broken, fault_of, place_of}
-use Rattle.tag_trees.specs.declared.fault.BitFault.{BitFault}
-use Rattle.tag_trees.specs.declared.fault.BitFault.TheVariants.{OutOfBits, StuffedBitSet as StuffedBit}
-use Rattle.tag_trees.proofs.BitLemmas.{number-length, width_le}
-use Rattle.tag_trees.proofs.TakeLemmas.{stuffs_supply}
+use Rattle.bit_stuffing.specs.Bits.{number, useful, byte_width}
+use Rattle.bit_stuffing.specs.Source.{BitSource, Took}
+use Rattle.bit_stuffing.specs.Stuffing.{Stuffs, supply, supply_from, is_broken, fault_of, place_of}
+use Rattle.bit_stuffing.specs.declared.fault.BitFault.{BitFault}
+use Rattle.bit_stuffing.specs.declared.fault.BitFault.TheVariants.{OutOfBits, StuffedBitSet as StuffedBit}
+use Rattle.bit_stuffing.proofs.BitLemmas.{number-length, width_le}
+use Rattle.bit_stuffing.proofs.TakeLemmas.{stuffs_supply}
 use Rattle.packet_headers.specs.declared.entry.Entry.{Entry}
 use Rattle.packet_headers.specs.declared.packet.BandShape.{BandShape}
 use Rattle.packet_headers.specs.declared.packet.PacketBand.{PacketBand}
@@ -36,8 +36,8 @@ supply-length : (a : Bool) (bytes : List ℕ) → length (supply_from a bytes) �
 unfolding supply_from
 supply-length a [] = omega arith
 supply-length a (b ∷ bytes) =
-    let n = number-length (width_behind a) b in let w = width_le a in
-    by_eight (is_broken a b) (number (width_behind a) b) (supply_from (b == 255) bytes) (length bytes) (omega arith) (supply-length (b == 255) bytes)
+    let n = number-length (byte_width a) b in let w = width_le a in
+    by_eight (is_broken a b) (number (byte_width a) b) (supply_from (b == 255) bytes) (length bytes) (omega arith) (supply-length (b == 255) bytes)
 
 -- a reader at the first bit
 abbrev pub start : List ℕ → BitSource

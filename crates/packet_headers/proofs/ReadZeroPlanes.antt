@@ -3,19 +3,19 @@ use Rattle.std.proofs.Common.{◌≡◌, ℕ, ◌+◌, ◌-◌, ◌<◌, ◌≤�
 use Rattle.std.specs.Prelude.{max, nat_lt, replicate, if◌then◌else◌}
 use Rattle.std.proofs.lemmas.Bool.{ltb-true, ltb-false, le-ltb}
 use Rattle.tag_trees.specs.TagTree.{Writing, leaf_node, levels_above, path_of, largest, node_bits, path_bits, bits_of_writing, IsNumbering, is_among}
-use Rattle.tag_trees.specs.BitState.{BitSource, Took}
+use Rattle.bit_stuffing.specs.Source.{BitSource, Took}
 use Rattle.tag_trees.specs.TreeState.{width_of, height_of, levels_of, Stands, Allows}
 use Rattle.tag_trees.specs.declared.tree.Tree.{Tree}
 use Rattle.tag_trees.proofs.ReaderLemmas.{split_thresholds, stands_split}
 use Rattle.tag_trees.proofs.TreePaths.{largest_push, numbering_along}
 use Rattle.packet_headers.specs.declared.refusal.PacketRefusal.{PacketRefusal}
 use Rattle.packet_headers.specs.declared.refusal.PacketRefusal.TheVariants.{ZeroPlanesTooMany}
-use Rattle.tag_trees.specs.declared.fault.BitFault.{BitFault}
-use Rattle.tag_trees.specs.declared.fault.BitFault.TheVariants.{OutOfBits, StuffedBitSet}
+use Rattle.bit_stuffing.specs.declared.fault.BitFault.{BitFault}
+use Rattle.bit_stuffing.specs.declared.fault.BitFault.TheVariants.{OutOfBits, StuffedBitSet}
 use Rattle.packet_headers.specs.Reading.{refusal_of}
 use Rattle.packet_headers.specs.ReadSteps.{last_place, FoundZeroPlanes}
-use Rattle.tag_trees.proofs.UptoLemmas.{took_more}
-use Rattle.packet_headers.proofs.ReadBits.{took_none, took_rest}
+use Rattle.bit_stuffing.proofs.SourceLemmas.{took_more}
+use Rattle.bit_stuffing.proofs.SourceLemmas.{took_none, took_rest}
 use Rattle.packet_headers.proofs.ReadCodes.{along}
 
 -- up to 0 nothing is written

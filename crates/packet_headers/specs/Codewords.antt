@@ -1,7 +1,7 @@
 -- The numbers of a block in a packet header: coding passes (ISO/IEC 15444-1, Table B.4) and length (B.10.7).
 use Rattle.std.specs.Prelude.{ℕ, ◌+◌, ◌-◌, nat_le, Bool, true, false, if◌then◌else◌, List, [], ◌∷◌, ◌++◌, replicate}
 use Rattle.cine_nums.specs.Bits.{bit_len}
-use Rattle.tag_trees.specs.Bits.{number}
+use Rattle.bit_stuffing.specs.Bits.{number}
 
 -- the bits of a number of coding passes, 1 to 164
 unfoldable pub pass_bits : ℕ → List Bool

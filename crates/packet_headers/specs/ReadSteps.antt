@@ -2,8 +2,8 @@
 use Rattle.std.specs.Prelude.{◌≡◌, ℕ, ◌+◌, ◌*◌, ◌<◌, ◌≤◌, [], ◌∷◌, ◌++◌, List, Bool, true, false, length, map, min, replicate, sum_by, Result, Ok, Err, MatchResult}
 use Rattle.tag_trees.specs.TagTree.{Writing, leaf_node, IsNumbering, bits_of_writing}
 use Rattle.tag_trees.specs.TreeState.{width_of, height_of, levels_of, Stands, Allows}
-use Rattle.tag_trees.specs.BitState.{BitSource, Took}
-use Rattle.tag_trees.specs.Stuffing.{place_of}
+use Rattle.bit_stuffing.specs.Source.{BitSource, Took}
+use Rattle.bit_stuffing.specs.Stuffing.{place_of}
 use Rattle.tag_trees.specs.declared.tree.Tree.{Tree}
 use Rattle.packet_headers.specs.declared.entry.Entry.{Entry}
 use Rattle.packet_headers.specs.declared.packet.BandShape.{BandShape}

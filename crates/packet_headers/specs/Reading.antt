@@ -1,8 +1,8 @@
 -- What `read` owes: the shapes that it takes, and the cause of each refusal.
 use Rattle.std.specs.Prelude.{◌≡◌, ℕ, ◌+◌, ◌<◌, ◌≤◌, List, ◌++◌, length, take, Bool, All}
-use Rattle.tag_trees.specs.Stuffing.{Stuffs, supply, fault_of, place_of}
-use Rattle.tag_trees.specs.declared.fault.BitFault.{BitFault}
-use Rattle.tag_trees.specs.declared.fault.BitFault.TheVariants.{OutOfBits, StuffedBitSet as StuffedBit}
+use Rattle.bit_stuffing.specs.Stuffing.{Stuffs, supply, fault_of, place_of}
+use Rattle.bit_stuffing.specs.declared.fault.BitFault.{BitFault}
+use Rattle.bit_stuffing.specs.declared.fault.BitFault.TheVariants.{OutOfBits, StuffedBitSet as StuffedBit}
 use Rattle.packet_headers.specs.declared.packet.BandShape.{BandShape}
 use Rattle.packet_headers.specs.declared.packet.PacketRead.{PacketRead}
 use Rattle.packet_headers.specs.declared.refusal.PacketRefusal.{PacketRefusal}

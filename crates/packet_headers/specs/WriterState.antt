@@ -1,6 +1,6 @@
 -- What the writer of a band keeps of the nodes above the leaves.
 use Rattle.std.specs.Prelude.{◌≡◌, ℕ, suc, zero, ◌+◌, ◌-◌, ◌*◌, ◌/◌, ◌%◌, ◌<◌, ◌≤◌, Bool, true, false, not, ◌&&◌, ◌==◌, nat_lt, if◌then◌else◌, List, [], ◌∷◌, ◌++◌, get_or}
-use Rattle.tag_trees.specs.Bits.{number, bit_value}
+use Rattle.bit_stuffing.specs.Bits.{number, bit_value}
 use Rattle.tag_trees.specs.TagTree.{middle_node, levels_above, largest}
 use Rattle.packet_headers.specs.declared.entry.Entry.{Entry}
 use Rattle.packet_headers.specs.declared.above.Above.{Above}

@@ -9,7 +9,7 @@ use crate::block::{BandMarks, put_block};
 use crate::entry::Entry;
 use crate::packet::PacketBand;
 use crate::place::{quarter_of, quarters_of};
-use tag_trees::BitSink;
+use bit_stuffing::BitSink;
 
 // The least zero planes of the nodes above the leaves of a band's tag trees: of the one above the middle ones,
 // and of one for each quarter.

@@ -1,13 +1,13 @@
 // Writing a block.
 ghost use Rattle.std.specs.Prelude.{◌≡◌, ◌+◌, ◌-◌, ◌<◌, ◌≤◌, ◌^◌, [], ◌++◌, List, Bool, ℕ, not, ◌&&◌, true, false, IsTrue};
-ghost use Rattle.tag_trees.specs.Bits.{number};
+ghost use Rattle.bit_stuffing.specs.Bits.{number};
 ghost use Rattle.packet_headers.specs.Written.{CanWriteEntry};
 ghost use Rattle.packet_headers.specs.WriterState.{above_at, inclusion_list, zero_plane_list, mark_of, entry_list, Marked, MarkedIf};
 
 use crate::above::{Above, Marks};
 use crate::codeword::{Codeword, joined, numbers_codeword};
 use crate::entry::Entry;
-use tag_trees::BitSink;
+use bit_stuffing::BitSink;
 
 // Which nodes above the leaves have been written: in the inclusion tree up to 1, and in the zero plane tree
 // beyond their values.

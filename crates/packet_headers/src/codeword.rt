@@ -1,6 +1,6 @@
 // The codewords of a block's numbers.
 ghost use Rattle.std.specs.Prelude.{◌≡◌, ◌+◌, ◌<◌, ◌≤◌, ◌^◌, ◌*◌, ◌++◌, [], ◌∷◌, replicate, true};
-ghost use Rattle.tag_trees.specs.Bits.{number};
+ghost use Rattle.bit_stuffing.specs.Bits.{number};
 ghost use Rattle.packet_headers.specs.Codewords.{pass_bits, length_bits, least_raise};
 ghost use Rattle.packet_headers.specs.WriterState.{bit_if, zeros_if};
 

@@ -1,7 +1,7 @@
 // The codewords of the numbers of coding passes.
 ghost use Rattle.std.specs.Prelude.{◌≡◌, ◌+◌, ◌-◌, ◌<◌, ◌≤◌, ◌^◌};
 ghost use Rattle.cine_nums.specs.Bits.{bit_len};
-ghost use Rattle.tag_trees.specs.Bits.{number};
+ghost use Rattle.bit_stuffing.specs.Bits.{number};
 ghost use Rattle.packet_headers.specs.Codewords.{pass_bits};
 
 // The codeword of a number of coding passes, as a number, and what follows from it for a length behind it where

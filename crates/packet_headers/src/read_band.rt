@@ -1,7 +1,7 @@
 // Reading a band's part of a packet header (ISO/IEC 15444-1, B.10.8).
 ghost use Rattle.std.specs.Prelude.{◌≡◌, ◌<◌, ◌^◌, ◌++◌, List, Bool, ◌⊎◌, length, Err};
-ghost use Rattle.tag_trees.specs.BitState.{Took};
-ghost use Rattle.tag_trees.specs.Stuffing.{fault_of};
+ghost use Rattle.bit_stuffing.specs.Source.{Took};
+ghost use Rattle.bit_stuffing.specs.Stuffing.{fault_of};
 ghost use Rattle.packet_headers.specs.Words.{BandTrees};
 ghost use Rattle.packet_headers.specs.Grammar.{TreesFit};
 ghost use Rattle.packet_headers.specs.Reading.{refusal_of, CanReadBand};
@@ -11,7 +11,8 @@ use crate::packet::{BandShape, PacketBand};
 use crate::read_block::read_block;
 use crate::refusal::PacketRefusal;
 use arrayvec::ArrayVec;
-use tag_trees::{BitIn, Tree};
+use bit_stuffing::BitIn;
+use tag_trees::Tree;
 
 // The blocks of a band, in raster order.
 pub(crate) fn read_band(shape: BandShape, bits: &mut BitIn<'_>) -> Result<PacketBand, PacketRefusal>

@@ -2,8 +2,8 @@
 ghost use Rattle.std.specs.Prelude.{◌≡◌, ◌*◌, ◌<◌, ◌^◌, ◌++◌, List, Bool, ◌⊎◌, length, Err};
 ghost use Rattle.tag_trees.specs.TagTree.{Writing};
 ghost use Rattle.tag_trees.specs.TreeState.{Stands, Allows};
-ghost use Rattle.tag_trees.specs.BitState.{Took};
-ghost use Rattle.tag_trees.specs.Stuffing.{fault_of};
+ghost use Rattle.bit_stuffing.specs.Source.{Took};
+ghost use Rattle.bit_stuffing.specs.Stuffing.{fault_of};
 ghost use Rattle.packet_headers.specs.Words.{BlockWords, BandTrees, leaf_at, inclusion_writings, zero_plane_writings};
 ghost use Rattle.packet_headers.specs.Grammar.{TreesFit};
 ghost use Rattle.packet_headers.specs.Reading.{refusal_of, CanReadBand};
@@ -14,7 +14,8 @@ use crate::packet::BandShape;
 use crate::read_codes::{read_length, read_passes};
 use crate::read_zero_planes::read_zero_planes;
 use crate::refusal::PacketRefusal;
-use tag_trees::{BitIn, Tree};
+use bit_stuffing::BitIn;
+use tag_trees::Tree;
 
 // The block at a place of its band: whether it is included, and what is said of it if it is.
 pub(crate) fn read_block(

@@ -1,12 +1,12 @@
 // Reading a block's pass count and length (ISO/IEC 15444-1, B.10.6 and B.10.7).
 ghost use Rattle.std.specs.Prelude.{◌≡◌, ℕ, ◌+◌, ◌<◌, ◌≤◌, ◌^◌, ◌++◌, List, Bool, length, min, IfOk, IfErr, IsOkAnd};
-ghost use Rattle.tag_trees.specs.Bits.{value};
-ghost use Rattle.tag_trees.specs.BitState.{Took};
-ghost use Rattle.tag_trees.specs.Stuffing.{fault_of};
+ghost use Rattle.bit_stuffing.specs.Bits.{value};
+ghost use Rattle.bit_stuffing.specs.Source.{Took};
+ghost use Rattle.bit_stuffing.specs.Stuffing.{fault_of};
 ghost use Rattle.packet_headers.specs.Codewords.{pass_bits, length_bits, length_width};
 
+use bit_stuffing::{BitFault, BitIn};
 use cine_nums::bit_len;
-use tag_trees::{BitFault, BitIn};
 
 // The number that the next bits have, so many of them, the high bit first; u32::MAX where it is larger.
 fn read_number(width: u64, bits: &mut BitIn<'_>) -> Result<u32, BitFault>

@@ -3,7 +3,7 @@ ghost use Rattle.std.specs.Prelude.{◌≡◌};
 ghost use Rattle.packet_headers.specs.Reading.{refusal_of};
 
 use crate::refusal::PacketRefusal;
-use tag_trees::BitFault;
+use bit_stuffing::BitFault;
 
 impl From<BitFault> for PacketRefusal {
     ghost from_gives = { λ fault refusal. refusal ≡ refusal_of fault };

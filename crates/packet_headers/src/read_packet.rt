@@ -1,7 +1,7 @@
 // Reading the bits of a packet header (ISO/IEC 15444-1, B.10.8).
 ghost use Rattle.std.specs.Prelude.{◌≡◌, ◌*◌, ◌<◌, ◌^◌, ◌++◌, List, Bool, ◌⊎◌, length, Ok, Err};
-ghost use Rattle.tag_trees.specs.BitState.{Took};
-ghost use Rattle.tag_trees.specs.Stuffing.{fault_of};
+ghost use Rattle.bit_stuffing.specs.Source.{Took};
+ghost use Rattle.bit_stuffing.specs.Stuffing.{fault_of};
 ghost use Rattle.packet_headers.specs.Words.{PacketWords, band_of, packet_of, header_words};
 ghost use Rattle.packet_headers.specs.Grammar.{WordsFit, ZeroStop, PassStop};
 ghost use Rattle.packet_headers.specs.declared.refusal.PacketRefusal.TheVariants.{ZeroPlanesTooMany, PassesTooMany};
@@ -13,7 +13,7 @@ use crate::packet::{BandShape, Packet, PacketBand, PacketShape};
 use crate::read_band::read_band;
 use crate::refusal::PacketRefusal;
 use arrayvec::ArrayVec;
-use tag_trees::BitIn;
+use bit_stuffing::BitIn;
 
 // The bits of a header: its first bit, and the bands where that is 1.
 pub(crate) fn read_header(

@@ -2,12 +2,13 @@
 ghost use Rattle.std.specs.Prelude.{◌≡◌, ◌≢◌, ℕ, ◌+◌, ◌<◌, ◌≤◌, ◌++◌, List, Bool, ◌⊎◌, min, Err, Ok, IfOk};
 ghost use Rattle.tag_trees.specs.TagTree.{Writing, leaf_node, IsNumbering, bits_of_writing};
 ghost use Rattle.tag_trees.specs.TreeState.{width_of, height_of, levels_of, Stands, Allows};
-ghost use Rattle.tag_trees.specs.Stuffing.{fault_of};
+ghost use Rattle.bit_stuffing.specs.Stuffing.{fault_of};
 ghost use Rattle.packet_headers.specs.Reading.{refusal_of};
 ghost use Rattle.packet_headers.specs.ReadSteps.{FoundZeroPlanes};
 
 use crate::refusal::PacketRefusal;
-use tag_trees::{BitIn, Tree};
+use bit_stuffing::BitIn;
+use tag_trees::Tree;
 
 // The zero planes of the block of this column and row. Their number is asked for by one threshold after the
 // other, up to the band's planes: the bits are those of the last one.

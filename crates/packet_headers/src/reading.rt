@@ -1,7 +1,7 @@
 // Reading a packet's header.
 ghost use Rattle.std.specs.Prelude.{◌≡◌, ℕ, ◌+◌, ◌<◌, ◌≤◌, ◌^◌, ◌++◌, List, length, Ok, Err, IfOk, IfErr};
-ghost use Rattle.tag_trees.specs.Stuffing.{Stuffs};
-ghost use Rattle.tag_trees.specs.declared.fault.BitFault.{BitFault};
+ghost use Rattle.bit_stuffing.specs.Stuffing.{Stuffs};
+ghost use Rattle.bit_stuffing.specs.declared.fault.BitFault.{BitFault};
 ghost use Rattle.packet_headers.specs.Words.{PacketWords, packet_of, body_of};
 ghost use Rattle.packet_headers.specs.Grammar.{ZeroStop, PassStop};
 ghost use Rattle.packet_headers.specs.Reading.{CanRead, HasHeader, Found, StopsAt, EndsEarly, BodyShort, Refused, refusal_of};
@@ -14,7 +14,7 @@ use crate::packet::{PacketRead, PacketShape};
 use crate::read_body::packet_body;
 use crate::read_packet::read_header;
 use crate::refusal::PacketRefusal;
-use tag_trees::BitIn;
+use bit_stuffing::BitIn;
 
 /// Reads the header of the packet at the beginning of the bytes, which may be any (ISO/IEC 15444-1, B.10),
 /// and answers the packet, and the lengths in bytes of its header and of its body behind it.

@@ -1,6 +1,6 @@
 // Writing a header.
 ghost use Rattle.std.specs.Prelude.{◌≡◌, ◌+◌, ◌*◌, ◌<◌, ◌≤◌, [], ◌++◌, List, Bool, ℕ, length, map};
-ghost use Rattle.tag_trees.specs.Stuffing.{packed, Stuffs};
+ghost use Rattle.bit_stuffing.specs.Stuffing.{packed, Stuffs};
 ghost use Rattle.packet_headers.specs.Words.{packet_of};
 ghost use Rattle.packet_headers.specs.Reading.{HasHeader};
 ghost use Rattle.packet_headers.specs.Written.{written, written_bits, band_has_any, has_any, shapes_of, ArePlain, CanWrite};
@@ -8,7 +8,7 @@ ghost use Rattle.packet_headers.specs.Written.{written, written_bits, band_has_a
 use crate::band::put_band;
 use crate::packet::{Packet, PacketBand};
 use arrayvec::ArrayVec;
-use tag_trees::{BitCount, BitOut, BitSink};
+use bit_stuffing::{BitCount, BitOut, BitSink};
 
 // Whether a block of the band is included.
 fn band_includes(band: &PacketBand) -> bool

@@ -1,7 +1,3 @@
-pub mod BitLemmas
-pub mod PackLemmas
-pub mod SpillLemmas
-pub mod TakeLemmas
 pub mod NodeLemmas
 pub mod NodeLoops
 pub mod TreeLemmas
@@ -10,4 +6,3 @@ pub mod TreePaths
 pub mod UptoLemmas
 pub mod LeastLemmas
 pub mod ReaderLemmas
-pub mod WordLemmas

@@ -3,13 +3,14 @@ use Rattle.std.proofs.Common.{◌≡◌, ℕ, ◌+◌, ◌<◌, ◌≤◌, Bool,
 use Rattle.std.specs.Prelude.{◌&&◌, max, nat_lt, if◌then◌else◌, IfOk, IfErr, OnOk, IsOkAnd}
 use Rattle.std.proofs.lemmas.List.{append-nil}
 use Rattle.std.proofs.lemmas.Bool.{le-ltb}
-use Rattle.tag_trees.specs.BitState.{BitSource, Took}
+use Rattle.bit_stuffing.specs.Source.{BitSource, Took}
 use Rattle.tag_trees.specs.TagTree.{Writing, leaf_node, middle_node, levels_above, path_of, bits_of_writing, IsNumbering}
 use Rattle.tag_trees.specs.NodeStep.{AllowsValue, RunsOut}
 use Rattle.tag_trees.specs.TreeState.{width_of, height_of, levels_of, bound_of, known_of, Stands, Allows, IsWritten, NodeStep, bits_of_step}
 use Rattle.std.specs.Prelude.{MatchResult}
 use Rattle.tag_trees.specs.declared.tree.Tree.{Tree}
-use Rattle.tag_trees.specs.declared.fault.BitFault.{BitFault}
+use Rattle.bit_stuffing.specs.declared.fault.BitFault.{BitFault}
+use Rattle.bit_stuffing.proofs.SourceLemmas.{took_more}
 use Rattle.tag_trees.proofs.NodeLemmas.{Reaches, step_reaches}
 use Rattle.tag_trees.proofs.PathLemmas.{Steps, Fails}
 use Rattle.tag_trees.proofs.TreePaths.{WriteSteps, Allowed, writes_bits, writes_few, writes_on, write_zero, write_one, write_two, read_zero, read_one, read_two, stands_for, allows_before, bits_for, reads_for, ends_for, path_zero, path_one, path_two}
@@ -130,14 +131,6 @@ module _ (old new : Tree) (from to : BitSource) (x y t : ℕ) (column : x < widt
     reads = λ v earlier rest n s a e. back_leaf v earlier rest n s a e r h;
     read = λ v earlier n s a. read_leaf_by v earlier n s r a h;
   }
-
--- bits that were taken one after the other
-pub took_more : (a b c : BitSource) (p q : List Bool) → Took a p b → Took b q c → Took a (p ++ q) c
-took_more a b c p q h k = record {
-  same = k.same ∙ h.same;
-  ahead = h.ahead ∙ ap (λ r. p ++ r) k.ahead ∙ sym (append_assoc p q c.ahead);
-  taken = k.taken ∙ ap (λ r. r ++ q) h.taken ∙ append_assoc a.taken p q;
-}
 
 took_end : (a b : BitSource) (p : List Bool) → Took a p b → Took a (p ++ []) b
 took_end a b p h = rw (append-nil p) h

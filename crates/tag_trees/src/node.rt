@@ -1,12 +1,10 @@
 // A node of a tag tree.
 ghost use Rattle.std.specs.Prelude.{List, Bool, ◌≡◌, ◌+◌, ◌<◌, ◌≤◌, ◌++◌, ◌&&◌, [], length, max, nat_lt, false, IfOk, IfErr};
 ghost use Rattle.tag_trees.specs.NodeStep.{IsStep, step_bits, AllowsValue, RunsOut};
-ghost use Rattle.tag_trees.specs.BitState.{Took};
-ghost use Rattle.tag_trees.specs.Stuffing.{fault_of};
+ghost use Rattle.bit_stuffing.specs.Source.{Took};
+ghost use Rattle.bit_stuffing.specs.Stuffing.{fault_of};
 
-use crate::bit_in::BitIn;
-use crate::bit_sink::BitSink;
-use crate::fault::BitFault;
+use bit_stuffing::{BitFault, BitIn, BitSink};
 
 // What a tree keeps of a node: its value, where the tree is written, and a lower bound, which is the value
 // itself where that is known to who reads.

@@ -1,10 +1,8 @@
 // Tag trees.
 ghost use Rattle.std.specs.Prelude.{◌≡◌, ℕ, ◌+◌, ◌*◌, ◌<◌, ◌≤◌};
 
-use crate::bit_in::BitIn;
-use crate::bit_sink::BitSink;
-use crate::fault::BitFault;
 use crate::node::Node;
+use bit_stuffing::{BitFault, BitIn, BitSink};
 
 /// A tag tree of at most 4 by 4 leaves (ISO/IEC 15444-1, B.10.2), to write or to read. In a contract its
 /// nodes are numbered as `path_of` says.
@@ -24,8 +22,8 @@ impl Tree {
     ghost use Rattle.tag_trees.specs.TagTree.{leaf_node, path_of, is_among, Writing, IsNumbering, bits_of_writing, least};
     ghost use Rattle.tag_trees.specs.TreeState.{width_of, height_of, levels_of, node_of, bound_of, known_of, value_of, Stands, Allows, IsWritten, NodeStep, bits_of_step};
     ghost use Rattle.tag_trees.specs.NodeStep.{AllowsValue, RunsOut};
-    ghost use Rattle.tag_trees.specs.BitState.{Took};
-    ghost use Rattle.tag_trees.specs.Stuffing.{fault_of};
+    ghost use Rattle.bit_stuffing.specs.Source.{Took};
+    ghost use Rattle.bit_stuffing.specs.Stuffing.{fault_of};
 
     /// A tree to write, of these sides in leaves, at most 4. Each leaf has its value, in raster order, and a
     /// node above the leaves has the least value of those under it.

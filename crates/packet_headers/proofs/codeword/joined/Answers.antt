@@ -1,5 +1,5 @@
 use Rattle.std.proofs.Common.{arith}
-use Rattle.tag_trees.proofs.SpillLemmas.{number-join, join_below}
+use Rattle.bit_stuffing.proofs.RegisterLemmas.{number-join, join_below}
 use Rattle.packet_headers.proofs.CodewordLemmas.{joined_whole, joined_small}
 use Rattle.packet_headers.proofs.codeword.joined.Goals as goal
 

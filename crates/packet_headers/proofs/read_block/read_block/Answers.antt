@@ -1,7 +1,7 @@
 use Rattle.std.proofs.Common.{◌%◌, ◌/◌, inr, arith, ap}
 use Rattle.std.specs.Prelude.{nat_lt}
 use Rattle.tag_trees.specs.TagTree.{leaf_node}
-use Rattle.tag_trees.specs.Stuffing.{fault_of}
+use Rattle.bit_stuffing.specs.Stuffing.{fault_of}
 use Rattle.packet_headers.proofs.ReadIncluded.{told_at}
 use Rattle.packet_headers.proofs.ReadBlocks.{none_is, upto_less, reads_no_inclusion, found_out, reads_out, found_in, reads_in}
 use Rattle.packet_headers.proofs.read_block.read_block.Goals as goal

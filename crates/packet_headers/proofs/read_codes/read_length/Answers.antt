@@ -1,7 +1,7 @@
 use Rattle.std.proofs.Common.{◌≡◌, ℕ, ◌+◌, ◌≤◌, Bool, true, [], ◌∷◌, ◌++◌, ap, ◌∙◌, arith}
 use Rattle.std.specs.Prelude.{replicate}
 use Rattle.cine_nums.specs.Bits.{bit_len}
-use Rattle.tag_trees.specs.BitState.{BitSource, Took}
+use Rattle.bit_stuffing.specs.Source.{BitSource, Took}
 use Rattle.packet_headers.specs.Codewords.{length_width}
 use Rattle.packet_headers.proofs.ReadBits.{one_took}
 use Rattle.packet_headers.proofs.ReadCodes.{bit_is, along}

@@ -1,6 +1,6 @@
 use Rattle.std.proofs.Common.{◌≡◌, ℕ, ◌+◌, true, length}
 use Rattle.std.specs.Prelude.{replicate}
-use Rattle.tag_trees.specs.BitState.{Took}
+use Rattle.bit_stuffing.specs.Source.{Took}
 use Rattle.packet_headers.proofs.read_codes.read_length.Given as goal
 
 abbrev pub invariant-loop-width : goal.invariant-loop-width

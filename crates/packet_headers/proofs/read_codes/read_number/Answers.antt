@@ -1,6 +1,8 @@
 use Rattle.std.proofs.Common.{◌≡◌, ◌^◌, ◌++◌, [], ◌∷◌, refl, arith, length-append, ap, ◌∙◌}
-use Rattle.tag_trees.specs.Bits.{value_from, bit_value}
-use Rattle.packet_headers.proofs.ReadBits.{took_none, value-below, kept_more, one_took, byte_is}
+use Rattle.bit_stuffing.specs.Bits.{value_from, bit_value}
+use Rattle.bit_stuffing.proofs.SourceLemmas.{took_none}
+use Rattle.bit_stuffing.proofs.BitLemmas.{value-below}
+use Rattle.packet_headers.proofs.ReadBits.{kept_more, one_took, byte_is}
 use Rattle.packet_headers.proofs.read_codes.read_number.Goals as goal
 
 pub loop-init : goal.loop-init

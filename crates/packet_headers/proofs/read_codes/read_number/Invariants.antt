@@ -1,6 +1,6 @@
 use Rattle.std.proofs.Common.{◌≡◌, min, List, Bool, length}
-use Rattle.tag_trees.specs.Bits.{value}
-use Rattle.tag_trees.specs.BitState.{Took}
+use Rattle.bit_stuffing.specs.Bits.{value}
+use Rattle.bit_stuffing.specs.Source.{Took}
 use Rattle.packet_headers.proofs.read_codes.read_number.Given as goal
 
 abbrev pub invariant-loop : goal.invariant-loop

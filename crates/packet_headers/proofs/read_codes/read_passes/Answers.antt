@@ -1,6 +1,6 @@
 use Rattle.std.proofs.Common.{◌≡◌, ◌<◌, ◌++◌, List, Bool, true, [], ◌∷◌, arith, ap, sym, ◌∙◌}
-use Rattle.tag_trees.specs.BitState.{BitSource, Took}
-use Rattle.tag_trees.proofs.UptoLemmas.{took_more}
+use Rattle.bit_stuffing.specs.Source.{BitSource, Took}
+use Rattle.bit_stuffing.proofs.SourceLemmas.{took_more}
 use Rattle.packet_headers.proofs.ReadCodes.{bit_is, along, passes_one, passes_two, first_zero, second_zero, ends_first, ends_second, reads_two_ends, took_few, reads_few, reads_five_ends, took_some, reads_some, reads_seven_ends, took_many, reads_many}
 use Rattle.packet_headers.proofs.read_codes.read_passes.Goals as goal
 

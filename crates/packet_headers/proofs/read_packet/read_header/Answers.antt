@@ -1,5 +1,5 @@
 use Rattle.std.proofs.Common.{inr, arith, ap, Ok}
-use Rattle.tag_trees.specs.Stuffing.{fault_of}
+use Rattle.bit_stuffing.specs.Stuffing.{fault_of}
 use Rattle.packet_headers.proofs.ReadCodes.{bit_is}
 use Rattle.packet_headers.proofs.ReadIncluded.{took_less}
 use Rattle.packet_headers.proofs.ReadHeaders.{found_empty, reads_empty, empty_no_zero, empty_no_pass, found_filled, reads_filled, reads_zero, reads_pass, no_first, no_zero_first, no_pass_first}

@@ -1,5 +1,5 @@
 use Rattle.std.proofs.Common.{[], ap, ◌∙◌, subst, arith}
-use Rattle.tag_trees.specs.Stuffing.{packed, Stuffs}
+use Rattle.bit_stuffing.specs.Stuffing.{packed, Stuffs}
 use Rattle.packet_headers.proofs.FitsLemmas.{header_found, packet_same}
 use Rattle.packet_headers.proofs.LengthLemmas.{packed_short}
 use Rattle.packet_headers.proofs.written.header.Goals as goal

@@ -1,5 +1,5 @@
 use Rattle.std.proofs.Common.{◌++◌, sym, ◌∙◌, subst, arith, append_assoc}
-use Rattle.tag_trees.specs.Bits.{number}
+use Rattle.bit_stuffing.specs.Bits.{number}
 use Rattle.packet_headers.specs.Words.{bands_bits}
 use Rattle.packet_headers.proofs.HeaderLemmas.{bands_more, empty_bits}
 use Rattle.packet_headers.proofs.written.put_header.Goals as goal

@@ -1,5 +1,5 @@
 use Rattle.std.proofs.Common.{refl}
-use Rattle.tag_trees.specs.Bits.{number}
+use Rattle.bit_stuffing.specs.Bits.{number}
 use Rattle.packet_headers.proofs.codeword.Codeword.none.Goals as goal
 
 pub returns-clause-bits : goal.returns-clause-bits

@@ -1,6 +1,6 @@
 use Rattle.std.proofs.Common.{◌+◌, ◌*◌, ap, ◌∙◌}
-use Rattle.tag_trees.specs.Bits.{number}
-use Rattle.tag_trees.proofs.BitLemmas.{bit_of, number-push}
+use Rattle.bit_stuffing.specs.Bits.{number}
+use Rattle.bit_stuffing.proofs.BitLemmas.{bit_of, number-push}
 use Rattle.packet_headers.proofs.codeword.Codeword.with_bit_if.Goals as goal
 
 pub returns-clause-bits : goal.returns-clause-bits

@@ -1,5 +1,5 @@
 use Rattle.std.proofs.Common.{◌+◌, arith}
-use Rattle.tag_trees.proofs.SpillLemmas.{number-join, join_below, one_fits}
+use Rattle.bit_stuffing.proofs.RegisterLemmas.{number-join, join_below, one_fits}
 use Rattle.packet_headers.proofs.CodewordLemmas.{zeros_whole, zeros_small}
 use Rattle.packet_headers.proofs.codeword.Codeword.with_zeros_if.Goals as goal
 

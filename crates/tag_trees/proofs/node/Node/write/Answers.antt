@@ -1,9 +1,9 @@
 use Rattle.std.proofs.Common.{◌≡◌, ℕ, ◌+◌, ◌-◌, Bool, true, false, ◌++◌, sym, subst, ◌∙◌}
 use Rattle.std.specs.Prelude.{replicate}
 use Rattle.std.proofs.lemmas.List.{append-nil}
-use Rattle.tag_trees.specs.Bits.{number}
+use Rattle.bit_stuffing.specs.Bits.{number}
 use Rattle.tag_trees.specs.NodeStep.{step_bits}
-use Rattle.tag_trees.proofs.SpillLemmas.{number-zeros, number-one, one_fits}
+use Rattle.bit_stuffing.proofs.RegisterLemmas.{number-zeros, number-one, one_fits}
 use Rattle.tag_trees.proofs.node.Node.write.Goals as goal
 
 one_is : (n start bound from : ℕ) (known : Bool) → known ≡ false → n ≡ bound - from → start ≡ from → number (n + 1) 1 ≡ step_bits start known bound true

@@ -1,0 +1,5 @@
+use Rattle.bit_stuffing.proofs.LayLemmas.{stuffs_packed}
+use Rattle.bit_stuffing.proofs.laws.packing.Goals as goal
+
+pub returns : goal.returns
+returns c = stuffs_packed
