@@ -46,7 +46,8 @@ pub record IsSmall (r : Rect) : Type 0 where
   pub width : r.width ≤ 4096
   pub height : r.height ≤ 4096
 
-pub band_fits : (g : Geometry) (r : ℕ) (o : Orient) (band : Rect) → band ≡ band_of g r o → IsSmall band
+pub band_fits : (g : Geometry) (r : ℕ) (o : Orient) (band : Rect) → band ≡ band_of g r o →
+    IsSmall band
 band_fits g r o band is =
     let width : band.width ≡ (band_of g r o).width = ap (λ b. b.width) is in
     let height : band.height ≡ (band_of g r o).height = ap (λ b. b.height) is in

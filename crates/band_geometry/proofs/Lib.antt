@@ -1,8 +1,10 @@
 pub mod BandLemmas
+pub mod BlockPlaces
 pub mod ListedLemmas
 pub mod NumberLemmas
 pub mod PlaneLemmas
 pub mod PrecinctLemmas
+pub mod ResolutionLemmas
 pub mod SideLemmas
 pub mod StandardLemmas
 pub mod TilingLemmas

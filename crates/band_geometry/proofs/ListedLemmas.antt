@@ -1,5 +1,6 @@
 -- Elements of lists that are joined of pieces.
-use Rattle.std.proofs.Common.{◌≡◌, ℕ, zero, suc, ◌+◌, ◌<◌, List, [], ◌∷◌, ◌++◌, length, Some, arith, ◌∙◌, ap, slice_get, get_or, zero-add}
+use Rattle.std.proofs.Common.{◌≡◌, ℕ, zero, suc, ◌+◌, ◌<◌, List, [], ◌∷◌, ◌++◌, length, Some, arith}
+use Rattle.std.proofs.Common.{◌∙◌, ap, slice_get, get_or, zero-add}
 use Rattle.std.specs.List.{flat_map, range_with_len}
 use Rattle.std.proofs.lemmas.List.FromFn.{length-range_with_len, get_or-range_with_len}
 use Rattle.std.proofs.lemmas.Option.{slice_get-get_or}
@@ -14,7 +15,8 @@ slice_get-append_left [] ys k a here = cc
 slice_get-append_left (x ∷ xs) ys zero a here = here
 slice_get-append_left (x ∷ xs) ys (suc k) a here = slice_get-append_left xs ys k a here
 
-slice_get-append_right : {A : Type 0} (xs ys : List A) (k : ℕ) → slice_get (xs ++ ys) (length xs + k) ≡ slice_get ys k
+slice_get-append_right : {A : Type 0} (xs ys : List A) (k : ℕ) →
+    slice_get (xs ++ ys) (length xs + k) ≡ slice_get ys k
 slice_get-append_right [] ys k = ap (slice_get ys) (zero-add k)
 slice_get-append_right (x ∷ xs) ys k =
     let e : suc (length xs) + k ≡ suc (length xs + k) = omega arith in
@@ -34,6 +36,8 @@ lists-flat_map f (y ∷ ys) (suc k) x b here there =
 
 pub slice_get-range : (n i : ℕ) → i < n → slice_get (range_with_len 0 n) i ≡ Some i
 slice_get-range n i below =
-    let get = slice_get-get_or (range_with_len 0 n) i 0 (omega (arith, length-range_with_len 0 n)) in
-    let is : get_or (range_with_len 0 n) i 0 ≡ i = get_or-range_with_len 0 n i 0 below ∙ zero-add i in
+    let get = slice_get-get_or (range_with_len 0 n) i 0
+    (omega (arith, length-range_with_len 0 n)) in
+    let is : get_or (range_with_len 0 n) i 0 ≡ i = get_or-range_with_len 0 n i 0 below
+    ∙ zero-add i in
     get ∙ ap (λ j. Some j) is

@@ -8,7 +8,8 @@ use Rattle.band_geometry.specs.declared.geometry.Geometry.{Geometry}
 use Rattle.band_geometry.proofs.SideLemmas.{res_side-below}
 
 -- a block of a band whose side is at most half of the resolution's, rounded up
-in_precinct : (side band x : ℕ) → band ≤ (side + 1) / 2 → x < (band + 31) / 32 → 32 * x / 128 < (side + 255) / 256
+in_precinct : (side band x : ℕ) → band ≤ (side + 1) / 2 → x < (band + 31) / 32 →
+    32 * x / 128 < (side + 255) / 256
 in_precinct side band x half below = omega arith
 
 across : (g : Geometry) (r : ℕ) (o : Orient) (x : ℕ) → HasBand g r o → x < block_columns g r o →
@@ -47,5 +48,6 @@ down g (suc r) HH y has below =
 
 pub blocks_in_precincts : (g : Geometry) (r : ℕ) (o : Orient) (x y : ℕ) → HasBand g r o →
     x < block_columns g r o → y < block_rows g r o →
-    (32 * x / 128 < precinct_count g.levels g.width r) × (32 * y / 128 < precinct_count g.levels g.height r)
+    (32 * x / 128 < precinct_count g.levels g.width r) ×
+    (32 * y / 128 < precinct_count g.levels g.height r)
 blocks_in_precincts g r o x y has column row = (across g r o x has column, down g r o y has row)

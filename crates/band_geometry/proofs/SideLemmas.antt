@@ -1,5 +1,6 @@
 -- Each resolution is the one above it, halved and rounded up.
-use Rattle.std.proofs.Common.{◌≡◌, ℕ, zero, suc, ◌+◌, ◌-◌, ◌*◌, ◌/◌, ◌^◌, ◌<◌, ◌≤◌, inl, inr, arith, ◌∙◌, sym, ap}
+use Rattle.std.proofs.Common.{◌≡◌, ℕ, zero, suc, ◌+◌, ◌-◌, ◌*◌, ◌/◌, ◌^◌, ◌<◌, ◌≤◌, inl, inr, arith}
+use Rattle.std.proofs.Common.{◌∙◌, sym, ap}
 use Rattle.std.proofs.Math.Nat.{pow-suc, add-div_right, div-div-eq-div-mul, eq-or-lt_of_le}
 use Rattle.std.proofs.lemmas.Nat.{pow_pos}
 use Rattle.cine_nums.specs.Division.{div_up}
@@ -20,15 +21,18 @@ res_side-below levels side r some enough =
     rw (e, pow-suc 2 (levels - r)) (div_up_twice side (2 ^ (levels - r)) (pow_pos (levels - r)))
 
 -- so it is no larger
-pub res_side_below_le : (levels side r : ℕ) → 1 ≤ r → r ≤ levels → res_side levels side (r - 1) ≤ res_side levels side r
+pub res_side_below_le : (levels side r : ℕ) → 1 ≤ r → r ≤ levels →
+    res_side levels side (r - 1) ≤ res_side levels side r
 res_side_below_le levels side r some enough =
     let n = res_side levels side r in
     let e = res_side-below levels side r some enough in
     omega (arith, e)
 
 -- nor than any above it: the sides of the resolutions don't fall
-pub res_side-monotone : (levels side a b : ℕ) → a ≤ b → b ≤ levels → res_side levels side a ≤ res_side levels side b
-res_side-monotone levels side a zero le within = let same : a ≡ 0 = omega arith in rw same (omega arith)
+pub res_side-monotone : (levels side a b : ℕ) → a ≤ b → b ≤ levels →
+    res_side levels side a ≤ res_side levels side b
+res_side-monotone levels side a zero le within = let same : a ≡ 0 =
+    omega arith in rw same (omega arith)
 res_side-monotone levels side a (suc b) le within =
     elim (eq-or-lt_of_le le) [
       | inl same ↦ rw same (omega arith)

@@ -1,5 +1,6 @@
 -- A band's size as the rest of its resolution is its size by equation B-15.
-use Rattle.std.proofs.Common.{◌≡◌, ℕ, zero, suc, ◌+◌, ◌-◌, ◌*◌, ◌/◌, ◌^◌, ◌<◌, ◌≤◌, ◌⊎◌, inl, inr, arith, ◌∙◌, sym, ap}
+use Rattle.std.proofs.Common.{◌≡◌, ℕ, zero, suc, ◌+◌, ◌-◌, ◌*◌, ◌/◌, ◌^◌, ◌<◌, ◌≤◌, ◌⊎◌, inl, inr}
+use Rattle.std.proofs.Common.{arith, ◌∙◌, sym, ap}
 use Rattle.std.proofs.Math.Nat.{pow-suc, div-div-eq-div-mul, div-eq_of_lt}
 use Rattle.std.proofs.lemmas.Bool.{cases_lt}
 use Rattle.std.proofs.lemmas.Nat.{pow_pos}
@@ -51,9 +52,11 @@ high_side levels side r some enough =
     let n = res_side levels side r in
     let below = res_side-below levels side r some enough in
     let half : n - res_side levels side (r - 1) ≡ n / 2 = omega (arith, below) in
-    half ∙ high_side_at (levels - r) side ∙ ap (λ l. band_side l side 1) (sym (band_level-above levels r some enough))
+    half ∙ high_side_at (levels - r) side
+    ∙ ap (λ l. band_side l side 1) (sym (band_level-above levels r some enough))
 
-lowest_side : (levels side r : ℕ) → r ≡ 0 → res_side levels side 0 ≡ band_side (band_level levels r) side 0
+lowest_side : (levels side r : ℕ) → r ≡ 0 →
+    res_side levels side 0 ≡ band_side (band_level levels r) side 0
 lowest_side levels side zero lowest =
     let e : levels - 0 ≡ levels = omega arith in
     ap (λ l. div_up side (2 ^ l)) e ∙ low_side_at levels side
@@ -73,10 +76,12 @@ height_of g r HL has = low_side g.levels g.height r has.orient has.res
 height_of g r LH has = high_side g.levels g.height r has.orient has.res
 height_of g r HH has = high_side g.levels g.height r has.orient has.res
 
-pub standard_width : (g : Geometry) (r : ℕ) (o : Orient) (width : ℕ) → HasBand g r o → width ≡ (band_of g r o).width →
+pub standard_width : (g : Geometry) (r : ℕ) (o : Orient) (width : ℕ) → HasBand g r o →
+    width ≡ (band_of g r o).width →
     width ≡ band_side (band_level g.levels r) g.width (offset_across o)
 standard_width g r o width has is = is ∙ width_of g r o has
 
-pub standard_height : (g : Geometry) (r : ℕ) (o : Orient) (height : ℕ) → HasBand g r o → height ≡ (band_of g r o).height →
+pub standard_height : (g : Geometry) (r : ℕ) (o : Orient) (height : ℕ) → HasBand g r o →
+    height ≡ (band_of g r o).height →
     height ≡ band_side (band_level g.levels r) g.height (offset_down o)
 standard_height g r o height has is = is ∙ height_of g r o has

@@ -1,5 +1,6 @@
 -- Bands and their code blocks (ISO/IEC 15444-1, B.5 and B.7).
-use Rattle.std.specs.Prelude.{ℕ, ◌+◌, ◌-◌, ◌*◌, ◌<◌, ◌≤◌, ◌≡◌, min}
+use Rattle.std.specs.Prelude.{ℕ, ◌+◌, ◌-◌, ◌*◌, ◌/◌, ◌<◌, ◌≤◌, ◌≡◌, min}
+use Rattle.cine_nums.specs.Coding.{block_side, band_precinct_side}
 use Rattle.cine_nums.specs.Division.{div_up}
 use Rattle.cine_nums.specs.declared.orient.Orient.{Orient}
 use Rattle.cine_nums.specs.declared.orient.Orient.TheVariants.{LL, HL, LH, HH}
@@ -56,8 +57,8 @@ band_of g r HH = record {
   height = res_height g r - res_height g (r - 1);
 }
 
--- the offsets of equation B-15 (Table B.1), xob and yob: 1 where the band is high-pass along a row, and
--- where it is high-pass along a column
+-- the offsets of equation B-15 (Table B.1), xob and yob: 1 where the band is high-pass along a row,
+-- and where it is high-pass along a column
 abbrev pub offset_across : Orient → ℕ
 offset_across LL = 0
 offset_across HL = 1
@@ -70,12 +71,12 @@ offset_down HL = 0
 offset_down LH = 1
 offset_down HH = 1
 
--- how many code blocks a band has across and down: they are 32 by 32, from the band's corner on
+-- how many code blocks a band has across and down, from the band's corner on
 abbrev pub block_columns : Geometry → ℕ → Orient → ℕ
-block_columns g r o = div_up (band_of g r o).width 32
+block_columns g r o = div_up (band_of g r o).width block_side
 
 abbrev pub block_rows : Geometry → ℕ → Orient → ℕ
-block_rows g r o = div_up (band_of g r o).height 32
+block_rows g r o = div_up (band_of g r o).height block_side
 
 -- the block is there
 pub record IsBlock (g : Geometry) (id : BlockId) : Type 0 where
@@ -87,10 +88,10 @@ pub record IsBlock (g : Geometry) (id : BlockId) : Type 0 where
 -- the block's places in the plane, cut at the band's right and lower edge
 abbrev pub block_of : Geometry → BlockId → Rect
 block_of g id = let band = band_of g id.res id.orient in record {
-  x = band.x + 32 * id.x;
-  y = band.y + 32 * id.y;
-  width = min 32 (band.width - 32 * id.x);
-  height = min 32 (band.height - 32 * id.y);
+  x = band.x + block_side * id.x;
+  y = band.y + block_side * id.y;
+  width = min block_side (band.width - block_side * id.x);
+  height = min block_side (band.height - block_side * id.y);
 }
 
 -- the place (x, y) lies in the rectangle
@@ -115,14 +116,18 @@ pub record HoldsPlace (g : Geometry) (c r : ℕ) (o : Orient) (x y : ℕ) (id : 
   pub orient : id.orient ≡ o
   pub place : IsPlaceIn (block_of g id) x y
 
--- the blocks of the band in precinct (px, py). A precinct has 128 by 128 places of each band, thus
--- 4 by 4 blocks; what lies past the band's edge is cut off
+-- the blocks along one side of a precinct in a band
+abbrev pub blocks_along_precinct : ℕ
+blocks_along_precinct = band_precinct_side / block_side
+
+-- the blocks of the band in precinct (px, py), at most 4 by 4; what lies past the band's edge is
+-- cut off
 abbrev pub precinct_blocks_of : Geometry → ℕ → Orient → ℕ → ℕ → BlockRange
 precinct_blocks_of g r o px py = record {
-  x0 = min (4 * px) (block_columns g r o);
-  y0 = min (4 * py) (block_rows g r o);
-  x1 = min (4 * px + 4) (block_columns g r o);
-  y1 = min (4 * py + 4) (block_rows g r o);
+  x0 = min (blocks_along_precinct * px) (block_columns g r o);
+  y0 = min (blocks_along_precinct * py) (block_rows g r o);
+  x1 = min (blocks_along_precinct * px + blocks_along_precinct) (block_columns g r o);
+  y1 = min (blocks_along_precinct * py + blocks_along_precinct) (block_rows g r o);
 }
 
 -- the block in column x and row y of a band is one of the range

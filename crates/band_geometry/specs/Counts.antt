@@ -1,5 +1,5 @@
--- Counts of blocks, for the contracts inside this crate: how many stand before a block in the list of
--- all blocks. That they say what the list says is proved in proofs/NumberLemmas.antt.
+-- The number of a block, by counting how many stand before it in the list of all blocks. That it
+-- is the block's place in that list say the clauses `value` and `counted` of `number`.
 use Rattle.std.specs.Prelude.{ℕ, zero, suc, ◌+◌, ◌*◌}
 use Rattle.cine_nums.specs.declared.orient.Orient.{Orient}
 use Rattle.cine_nums.specs.declared.orient.Orient.TheVariants.{LL, HL, LH, HH}

@@ -15,7 +15,8 @@ orients_of (suc _) = HL ∷ LH ∷ HH ∷ []
 -- one row of blocks, from left to right
 unfoldable pub blocks_of_row : Geometry → ℕ → ℕ → Orient → ℕ → List BlockId
 blocks_of_row g c r o y =
-    map (λ x. record { component = c; res = r; orient = o; x = x; y = y }) (range_with_len 0 (block_columns g r o))
+    map (λ x. record { component = c; res = r; orient = o; x = x; y = y })
+    (range_with_len 0 (block_columns g r o))
 
 -- the blocks of a band, row by row
 unfoldable pub blocks_of_band : Geometry → ℕ → ℕ → Orient → List BlockId

@@ -1,29 +1,19 @@
 -- Sizes of resolutions and precincts (ISO/IEC 15444-1, B.5 and B.6), one direction at a time.
-use Rattle.std.specs.Prelude.{ℕ, zero, suc, ◌-◌, ◌*◌, ◌^◌}
+use Rattle.std.specs.Prelude.{ℕ, ◌-◌, ◌*◌, ◌^◌}
 use Rattle.cine_nums.specs.Division.{div_up}
-use Rattle.cine_nums.specs.declared.profile.Profile.{Profile}
-use Rattle.cine_nums.specs.declared.profile.Profile.TheVariants.{TwoK, FourK}
-
--- the fewest levels that a codestream of the profile may have
-abbrev pub least_levels_of : Profile → ℕ
-least_levels_of TwoK = 0
-least_levels_of FourK = 1
+use Rattle.cine_nums.specs.Coding.{precinct_side}
 
 -- one side of resolution r, of a frame with this side and so many levels (B-14 with the image and
 -- the tile at the origin)
 abbrev pub res_side : ℕ → ℕ → ℕ → ℕ
 res_side levels side r = div_up side (2 ^ (levels - r))
 
--- one side of a band of this level (B-15 with the tile at the origin). The offset is that of Table B.1:
--- 1 where the band is high-pass in this direction, else 0. The subtraction stops at 0: where the offset
--- takes off more than the side has, the standard's quotient lies above -1 and rounds up to 0 as well
+-- one side of a band of this level (B-15 with the tile at the origin). The offset is that of Table
+-- B.1: 1 where the band is high-pass in this direction, else 0. The subtraction stops at 0: where
+-- the offset takes off more than the side has, the standard's quotient lies above -1 and rounds up
+-- to 0 as well
 unfoldable pub band_side : ℕ → ℕ → ℕ → ℕ
 band_side level side offset = div_up (side - 2 ^ (level - 1) * offset) (2 ^ level)
-
--- one side of a precinct of resolution r, in places of the resolution
-abbrev pub precinct_side : ℕ → ℕ
-precinct_side zero = 128
-precinct_side (suc _) = 256
 
 -- how many precincts resolution r has in one direction (B-16)
 abbrev pub precinct_count : ℕ → ℕ → ℕ → ℕ

@@ -1,14 +1,20 @@
 // The bands of a frame, their code blocks and the blocks of a precinct.
-ghost use Rattle.std.specs.Prelude.{◌*◌, ◌≡◌, ◌≤◌, ◌<◌, ◌/◌, ◌↔◌, ℕ};
+ghost use Rattle.std.specs.Prelude.{◌-◌, ◌*◌, ◌≡◌, ◌≤◌, ◌<◌, ◌/◌, ◌↔◌, ℕ};
 
 use crate::geometry::Geometry;
 use crate::places::{BlockId, BlockRange, Rect};
-use cine_nums::Orient;
+use cine_nums::{BAND_PRECINCT_SIDE, BLOCK_SIDE, Orient};
+
+/// The code blocks along one side of a precinct in a band.
+const BLOCKS_ALONG_PRECINCT: u32 = BAND_PRECINCT_SIDE / BLOCK_SIDE;
 
 impl Geometry {
-    ghost use Rattle.band_geometry.specs.Bands.{HasBand, band_of, IsBlock, block_of, IsPlaceIn, HoldsPlace};
-    ghost use Rattle.band_geometry.specs.Bands.{precinct_blocks_of, IsInRange, block_columns, block_rows};
+    ghost use Rattle.band_geometry.specs.Bands.{HasBand, band_of, IsBlock, block_of, IsPlaceIn};
+    ghost use Rattle.band_geometry.specs.Bands.{HoldsPlace};
+    ghost use Rattle.band_geometry.specs.Bands.{precinct_blocks_of, IsInRange, block_columns};
+    ghost use Rattle.band_geometry.specs.Bands.{block_rows};
     ghost use Rattle.band_geometry.specs.Bands.{offset_across, offset_down};
+    ghost use Rattle.cine_nums.specs.Coding.{block_side, band_precinct_side};
     ghost use Rattle.cine_nums.specs.Levels.{band_level};
     ghost use Rattle.band_geometry.specs.Sizes.{precinct_count, band_side};
     ghost use Rattle.band_geometry.specs.declared.places.BlockId.{BlockId};
@@ -18,7 +24,8 @@ impl Geometry {
     pub fn band(&self, res: u8, orient: Orient) -> Rect
         requires { HasBand self.now res orient }
         ensures value { result ≡ band_of self.now res orient }
-        // `band_of` takes the resolution below away; equation B-15 gives the same size in one division.
+        // `band_of` takes the resolution below away; equation B-15 gives the same size in one
+        // division.
         ensures standard_width { result.width ≡
             band_side (band_level self.now.levels res) self.now.width (offset_across orient) }
         ensures standard_height { result.height ≡
@@ -41,7 +48,7 @@ impl Geometry {
         }
     }
 
-    // A band of high frequencies.
+    /// A band of high frequencies.
     #[tactic(auto, using(crate::proofs::SideLemmas::res_side_below_le))]
     fn detail_band(&self, res: u8, orient: Orient) -> Rect
         requires band { HasBand self.now res orient }
@@ -85,10 +92,10 @@ impl Geometry {
     {
         let band = self.band(id.res, id.orient);
         Rect {
-            x: band.x + 32 * id.x,
-            y: band.y + 32 * id.y,
-            width: (band.width - 32 * id.x).min(32),
-            height: (band.height - 32 * id.y).min(32),
+            x: band.x + BLOCK_SIDE * id.x,
+            y: band.y + BLOCK_SIDE * id.y,
+            width: (band.width - BLOCK_SIDE * id.x).min(BLOCK_SIDE),
+            height: (band.height - BLOCK_SIDE * id.y).min(BLOCK_SIDE),
         }
     }
 
@@ -99,17 +106,19 @@ impl Geometry {
         requires column { px < precinct_count self.now.levels self.now.width res }
         requires row { py < precinct_count self.now.levels self.now.height res }
         ensures value { result ≡ precinct_blocks_of self.now res orient px py }
-        // They are those blocks of the band whose upper left place lies in the precinct's 128 by 128.
+        // They are those blocks of the band whose upper left place lies in the precinct.
         ensures members { (x y : ℕ) →
             x < block_columns self.now res orient → y < block_rows self.now res orient →
-            (IsInRange result x y ↔ (32 * x / 128 ≡ px) × (32 * y / 128 ≡ py)) }
+            (IsInRange result x y ↔ (block_side * x / band_precinct_side ≡ px) ×
+            (block_side * y / band_precinct_side ≡ py)) }
+        ensures few { (result.x1 - result.x0 ≤ 4) × (result.y1 - result.y0 ≤ 4) }
     {
         let (columns, rows) = self.block_grid(res, orient);
         BlockRange {
-            x0: columns.min(4 * px),
-            y0: rows.min(4 * py),
-            x1: columns.min(4 * px + 4),
-            y1: rows.min(4 * py + 4),
+            x0: columns.min(BLOCKS_ALONG_PRECINCT * px),
+            y0: rows.min(BLOCKS_ALONG_PRECINCT * py),
+            x1: columns.min(BLOCKS_ALONG_PRECINCT * px + BLOCKS_ALONG_PRECINCT),
+            y1: rows.min(BLOCKS_ALONG_PRECINCT * py + BLOCKS_ALONG_PRECINCT),
         }
     }
 }

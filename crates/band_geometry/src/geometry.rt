@@ -1,7 +1,7 @@
 // The geometry of a frame: its resolutions and their precincts.
 ghost use Rattle.std.specs.Prelude.{ℕ, ◌*◌, ◌/◌, ◌≡◌, ◌<◌, ◌≤◌};
-ghost use Rattle.cine_nums.specs.Profile.{levels_of, max_width_of, max_height_of};
-ghost use Rattle.band_geometry.specs.Sizes.{least_levels_of, res_side, precinct_side, precinct_count};
+ghost use Rattle.cine_nums.specs.Profile.{least_levels_of, levels_of, max_width_of, max_height_of};
+ghost use Rattle.band_geometry.specs.Sizes.{res_side, precinct_count};
 
 use crate::sides::{halved_up, precincts_along};
 use cine_nums::Profile;
@@ -28,6 +28,7 @@ pub struct Geometry {
 
 impl Geometry {
     ghost use Rattle.band_geometry.specs.Bands.{HasBand, block_columns, block_rows};
+    ghost use Rattle.cine_nums.specs.Coding.{block_side, band_precinct_side};
     ghost use Rattle.cine_nums.specs.declared.orient.Orient.{Orient};
 
     /// The geometry of frames of `width` by `height` samples with so many levels.
@@ -75,7 +76,8 @@ impl Geometry {
         // Each block of each band of the resolution lies in one of them.
         ensures enough { (o : Orient) (x y : ℕ) → HasBand self.now res o →
             x < block_columns self.now res o → y < block_rows self.now res o →
-            (32 * x / 128 < result.0) × (32 * y / 128 < result.1) }
+            (block_side * x / band_precinct_side < result.0) ×
+            (block_side * y / band_precinct_side < result.1) }
     {
         let (width, height) = self.res_size(res);
         (precincts_along(width, res), precincts_along(height, res))

@@ -8,8 +8,9 @@ use cine_nums::Orient;
 
 impl Geometry {
     ghost use Rattle.band_geometry.specs.Bands.{HasBand, IsBlock, block_columns, block_rows};
-    ghost use Rattle.band_geometry.specs.Counts.{band_count, res_count, count_below, component_count};
-    ghost use Rattle.band_geometry.specs.Counts.{count_before_band, place_in_res};
+    ghost use Rattle.band_geometry.specs.Counts.{band_count, res_count, count_below};
+    ghost use Rattle.band_geometry.specs.Counts.{component_count};
+    ghost use Rattle.band_geometry.specs.Counts.{count_before_band, place_in_res, number_of};
     ghost use Rattle.band_geometry.specs.Numbering.{all_blocks};
 
     /// How many code blocks the frame has, over its three components.
@@ -21,7 +22,8 @@ impl Geometry {
     }
 
     /// The code block with the number `n`. Numbers run from 0 on over the component, then the
-    /// resolution, then the band (LL, or HL, LH, HH), then the row and at last the column of blocks.
+    /// resolution, then the band (LL, or HL, LH, HH), then the row and at last the column of
+    /// blocks.
     pub fn block_id(&self, n: u32) -> BlockId
         requires { n < length (all_blocks self.now) }
         ensures value { slice_get (all_blocks self.now) n ≡ Some result }
@@ -35,6 +37,7 @@ impl Geometry {
     pub fn number(&self, id: BlockId) -> u32
         requires { IsBlock self.now id }
         ensures value { slice_get (all_blocks self.now) result ≡ Some id }
+        ensures counted { result ≡ number_of self.now id }
         // The block stands in the list once, so that `number` and `block_id` are inverse.
         ensures inverse { (n : ℕ) → slice_get (all_blocks self.now) n ≡ Some id → n ≡ result }
     {
@@ -44,7 +47,7 @@ impl Geometry {
         before + self.blocks_below(id.res) + place
     }
 
-    // How many blocks a band has across and down.
+    /// How many blocks a band has across and down.
     #[tactic(auto, using(crate::proofs::BandLemmas::band_fits))]
     pub(crate) fn block_grid(&self, res: u8, orient: Orient) -> (u32, u32)
         requires { HasBand self.now res orient }
@@ -57,7 +60,7 @@ impl Geometry {
         (blocks_along(band.width), blocks_along(band.height))
     }
 
-    // How many blocks a band has.
+    /// How many blocks a band has.
     #[tactic(auto, unfolding(crate::specs::Counts::band_count))]
     fn band_blocks(&self, res: u8, orient: Orient) -> u32
         requires { HasBand self.now res orient }
@@ -68,7 +71,7 @@ impl Geometry {
         rows * columns
     }
 
-    // How many blocks a resolution has.
+    /// How many blocks a resolution has.
     fn res_blocks(&self, res: u8) -> u32
         requires { res ≤ self.now.levels }
         ensures count { result ≡ res_count self.now res }
@@ -82,7 +85,7 @@ impl Geometry {
         high_across + high_down + self.band_blocks(res, Orient::HH)
     }
 
-    // How many blocks a component has at the resolutions below `res`.
+    /// How many blocks a component has at the resolutions below `res`.
     #[tactic(auto, using(crate::proofs::NumberLemmas::count_below_more), unfolding(crate::specs::Counts::count_below))]
     fn blocks_below(&self, res: u8) -> u32
         requires { res ≤ self.now.levels + 1 }
@@ -96,7 +99,7 @@ impl Geometry {
         count
     }
 
-    // How many blocks the bands before this one have at its resolution.
+    /// How many blocks the bands before this one have at its resolution.
     fn blocks_before_band(&self, res: u8, orient: Orient) -> u32
         requires { HasBand self.now res orient }
         ensures count { result ≡ count_before_band self.now res orient }
@@ -109,7 +112,7 @@ impl Geometry {
         }
     }
 
-    // The block at the place `n` among those of a component.
+    /// The block at the place `n` among those of a component.
     #[tactic(auto, using(crate::proofs::NumberLemmas::count_below_more), unfolding(crate::specs::Counts::count_below))]
     fn block_in_component(&self, component: u8, n: u32) -> BlockId
         requires component { component < 3 }
@@ -129,7 +132,7 @@ impl Geometry {
         unreachable!()
     }
 
-    // The block at the place `n` among those of a resolution.
+    /// The block at the place `n` among those of a resolution.
     fn block_in_res(&self, component: u8, res: u8, n: u32) -> BlockId
         requires component { component < 3 }
         requires res { res ≤ self.now.levels }
@@ -153,7 +156,7 @@ impl Geometry {
         }
     }
 
-    // The block at the place `n` among those of a band.
+    /// The block at the place `n` among those of a band.
     #[tactic(auto, using(crate::proofs::BandLemmas::in_grid), unfolding(crate::specs::Counts::band_count))]
     fn block_in_band(&self, component: u8, res: u8, orient: Orient, n: u32) -> BlockId
         requires component { component < 3 }

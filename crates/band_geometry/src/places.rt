@@ -36,8 +36,8 @@ pub struct BlockRange {
     pub x0: u32,
     /// The first row of blocks.
     pub y0: u32,
-    /// The column behind the last one.
+    /// The column after the last one.
     pub x1: u32,
-    /// The row behind the last one.
+    /// The row after the last one.
     pub y1: u32,
 }

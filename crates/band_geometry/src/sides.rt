@@ -1,9 +1,11 @@
 // One direction of a frame: sizes of resolutions and counts of precincts.
 ghost use Rattle.std.specs.Prelude.{◌≡◌, ◌<◌, ◌≤◌, ◌^◌};
 ghost use Rattle.cine_nums.specs.Division.{div_up};
-ghost use Rattle.band_geometry.specs.Sizes.{precinct_side};
+ghost use Rattle.cine_nums.specs.Coding.{block_side, precinct_side};
 
-// A number of samples, halved so often and rounded up once.
+use cine_nums::{BLOCK_SIDE, precinct_side};
+
+/// A number of samples, halved so often and rounded up once.
 pub(crate) fn halved_up(samples: u32, halvings: u8) -> u32
     requires samples { samples ≤ 4096 }
     requires halvings { halvings ≤ 6 }
@@ -13,15 +15,7 @@ pub(crate) fn halved_up(samples: u32, halvings: u8) -> u32
     (samples + (step - 1)) >> halvings
 }
 
-/// One side of a precinct of resolution `res`, in samples of the resolution: 128 at resolution 0, and
-/// 256 above (ISO/IEC 15444-1, B.6).
-pub fn precinct_side(res: u8) -> u32
-    ensures { result ≡ precinct_side res }
-{
-    if res == 0 { 128 } else { 256 }
-}
-
-// How many precincts of resolution `res` lie along so many of its samples.
+/// How many precincts of resolution `res` lie along so many of its samples.
 pub(crate) fn precincts_along(samples: u32, res: u8) -> u32
     requires { samples ≤ 4096 }
     ensures { result ≡ div_up samples (precinct_side res) }
@@ -29,11 +23,11 @@ pub(crate) fn precincts_along(samples: u32, res: u8) -> u32
     samples.div_ceil(precinct_side(res))
 }
 
-// How many code blocks lie along so many samples of a band.
+/// How many code blocks lie along so many samples of a band.
 pub(crate) fn blocks_along(samples: u32) -> u32
     requires { samples ≤ 4096 }
-    ensures count { result ≡ div_up samples 32 }
+    ensures count { result ≡ div_up samples block_side }
     ensures few { result ≤ 128 }
 {
-    samples.div_ceil(32)
+    samples.div_ceil(BLOCK_SIDE)
 }

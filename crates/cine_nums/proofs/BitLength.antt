@@ -11,7 +11,8 @@ record Reaches (a m : ℕ) : Type 0 where
 
 -- one more binary digit
 doubled : (a m : ℕ) → 0 < a → Reaches (a / 2) m → Reaches a (suc m)
-doubled a zero positive half = record { above = omega (arith, half.above); below = λ _. omega arith }
+doubled a zero positive half =
+    record { above = omega (arith, half.above); below = λ _. omega arith }
 doubled a (suc m) positive half =
     let low : 2 ^ suc m ≤ 2 * (a / 2) = half.below (omega arith) in
     record {
@@ -20,9 +21,11 @@ doubled a (suc m) positive half =
     }
 
 digits_within-reaches : (f a : ℕ) → a ≤ f → Reaches a (digits_within f a)
-digits_within-reaches zero zero le = record { above = omega arith; below = λ h. absurd (omega (arith, h)) }
+digits_within-reaches zero zero le =
+    record { above = omega arith; below = λ h. absurd (omega (arith, h)) }
 digits_within-reaches zero (suc a) le = absurd (omega arith)
-digits_within-reaches (suc f) zero le = record { above = omega arith; below = λ h. absurd (omega (arith, h)) }
+digits_within-reaches (suc f) zero le =
+    record { above = omega arith; below = λ h. absurd (omega (arith, h)) }
 digits_within-reaches (suc f) (suc a) le =
     doubled (suc a) (digits_within f (suc a / 2)) (omega arith)
     (digits_within-reaches f (suc a / 2) (omega arith))
@@ -52,7 +55,8 @@ in_order (suc m) zero a ge lt = absurd (omega (arith, two-pow-succ m, pow_pos m)
 in_order (suc zero) (suc k) a ge lt = omega arith
 in_order (suc (suc m)) (suc k) a ge lt =
     let halved : suc m ≤ k =
-    in_order (suc m) k (a / 2) (omega (arith, two-pow-succ m, two-pow-succ (suc m))) (omega (arith, two-pow-succ k)) in
+    in_order (suc m) k (a / 2) (omega (arith, two-pow-succ m, two-pow-succ (suc m)))
+    (omega (arith, two-pow-succ k)) in
     omega arith
 
 -- a number below 2 ^ k has at most k digits

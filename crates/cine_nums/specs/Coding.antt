@@ -1,4 +1,5 @@
--- What both digital cinema profiles fix of the coding style (ISO/IEC 15444-1, A.10, and the tables of A.6.1).
+-- What both digital cinema profiles fix of the coding style (ISO/IEC 15444-1, A.10, and the tables
+-- of A.6.1).
 use Rattle.std.specs.Prelude.{ℕ, zero, suc}
 
 -- one side of a code block, in places of its band
@@ -14,12 +15,14 @@ abbrev pub precinct_side : ℕ → ℕ
 precinct_side zero = 128
 precinct_side (suc _) = 256
 
--- its byte in COD (Table A.21): PPx in the four low bits and PPy in the four high ones, the exponents of 2
+-- its byte in COD (Table A.21): PPx in the four low bits and PPy in the four high ones, the
+-- exponents of 2
 abbrev pub precinct_byte : ℕ → ℕ
 precinct_byte zero = 0x77
 precinct_byte (suc _) = 0x88
 
--- one side of a precinct in places of each band (B.7): the bands of a resolution above 0 have half its sides
+-- one side of a precinct in places of each band (B.7): the bands of a resolution above 0 have half
+-- its sides
 abbrev pub band_precinct_side : ℕ
 band_precinct_side = 128
 

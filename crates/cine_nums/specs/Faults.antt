@@ -1,5 +1,5 @@
--- Tables of faults. A row says whether it applies to the bytes that are judged, and which fault is reported
--- then; the rows stand in the order in which the bytes are judged.
+-- Tables of faults. A row says whether it applies to the bytes that are judged, and which fault is
+-- reported then; the rows stand in the order in which the bytes are judged.
 use Rattle.std.specs.Prelude.{Bool, List, [], ◌∷◌, Option, Some, None, if◌then◌else◌}
 
 pub record Row (Fault : Type 0) : Type 0 where

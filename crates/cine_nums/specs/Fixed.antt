@@ -1,4 +1,5 @@
--- Fixed-point arithmetic with 16 bits behind the point, and the range that transformed samples keep.
+-- Fixed-point arithmetic with 16 bits after the point, and the range that transformed samples
+-- keep.
 use Rattle.std.specs.Prelude.{ℤ, pos, negsuc, ◌+ℤ◌, ◌*ℤ◌, ◌≤ℤ◌}
 use Rattle.std.specs.Int.{int_shr, saturate_to_bits}
 

@@ -1,5 +1,5 @@
--- The byte limits of a frame at 24 frames per second (DCI Digital Cinema System Specification, section 4,
--- on the distribution of 2K and 4K images).
+-- The byte limits of a frame at 24 frames per second (DCI Digital Cinema System Specification,
+-- section 4, on the distribution of 2K and 4K images).
 use Rattle.std.specs.Prelude.{ℕ, Bool, true, false}
 use Rattle.cine_nums.specs.declared.profile.Profile.{Profile}
 use Rattle.cine_nums.specs.declared.profile.Profile.TheVariants.{TwoK, FourK}
@@ -14,8 +14,8 @@ frame_limit = 1302083
 abbrev pub component_limit : ℕ
 component_limit = 1041666
 
--- the most bytes of a budget. The 2K portion of a 4K frame obeys the limits of a 2K frame, so that the limit
--- of a component is that of its tile-part in this portion
+-- the most bytes of a budget. The 2K portion of a 4K frame obeys the limits of a 2K frame, so that
+-- the limit of a component is that of its tile-part in this portion
 abbrev pub limit_of : Profile → Budget → ℕ
 limit_of profile Frame = frame_limit
 limit_of profile Inner = frame_limit

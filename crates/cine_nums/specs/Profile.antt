@@ -14,7 +14,8 @@ abbrev pub levels_of : Profile → ℕ
 levels_of TwoK = 5
 levels_of FourK = 6
 
--- the fewest levels that the profile allows: a 4K frame has at least the 2K resolution below its own
+-- the fewest levels that the profile allows: a 4K frame has at least the 2K resolution below its
+-- own
 abbrev pub least_levels_of : Profile → ℕ
 least_levels_of TwoK = 0
 least_levels_of FourK = 1
@@ -24,8 +25,8 @@ abbrev pub guard_of : Profile → ℕ
 guard_of TwoK = 1
 guard_of FourK = 2
 
--- tile-parts of a codestream: one a component; for 4K one a component without its largest resolution, and
--- after these one for the largest resolution of each
+-- tile-parts of a codestream: one a component; for 4K one a component without its largest
+-- resolution, and after these one for the largest resolution of each
 abbrev pub parts_of : Profile → ℕ
 parts_of TwoK = 3
 parts_of FourK = 6

@@ -1,5 +1,5 @@
--- Marker segments (ISO/IEC 15444-1, A.1.2): a marker, a length that counts itself and not the marker, and
--- the content of so many bytes less two.
+-- Marker segments (ISO/IEC 15444-1, A.1.2): a marker, a length that counts itself and not the
+-- marker, and the content of so many bytes less two.
 use Rattle.std.specs.Prelude.{ℕ, ◌+◌, List, ◌++◌, length}
 use Rattle.cine_nums.specs.Bytes.{word_bytes}
 

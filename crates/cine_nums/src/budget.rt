@@ -9,8 +9,8 @@ use crate::profile::Profile;
 pub enum Budget {
     /// The whole codestream.
     Frame,
-    /// The 2K portion of a 4K codestream: main header, first three tile-parts, EOC. A 2K codestream doesn't
-    /// have it.
+    /// The 2K portion of a 4K codestream: main header, first three tile-parts, EOC. A 2K codestream
+    /// doesn't have it.
     Inner,
     /// The tile-part of component 0; for 4K its first one.
     C0,
@@ -21,8 +21,9 @@ pub enum Budget {
 }
 
 impl Profile {
-    /// The most bytes of a budget at 24 frames per second: 1,302,083 for the whole frame and for the 2K
-    /// portion of a 4K frame, 1,041,666 for a component (DCI Digital Cinema System Specification, section 4).
+    /// The most bytes of a budget at 24 frames per second: 1,302,083 for the whole frame and for
+    /// the 2K portion of a 4K frame, 1,041,666 for a component (DCI Digital Cinema System
+    /// Specification, section 4).
     pub fn limit(self, budget: Budget) -> u32
         ensures { result ≡ limit_of self budget }
     {
@@ -49,7 +50,8 @@ mod tests {
     #[test]
     fn the_rules_of_the_profiles(rt: HostRuntime) {
         for profile in [Profile::TwoK, Profile::FourK] {
-            // 250 million bits a second for a frame, 200 million for a component, 24 frames a second
+            // 250 million bits a second for a frame, 200 million for a component, 24 frames a
+            // second
             assert_eq!(rt; profile.limit(Budget::Frame), 250_000_000 / 8 / 24);
             assert_eq!(rt; profile.limit(Budget::Inner), 250_000_000 / 8 / 24);
             assert_eq!(rt; profile.limit(Budget::C1), 200_000_000 / 8 / 24);

@@ -1,9 +1,10 @@
-// Fixed-point arithmetic with 16 bits behind the point.
+// Fixed-point arithmetic with 16 bits after the point.
 ghost use Rattle.std.specs.Prelude.{◌≡◌, ℤ, pos, negsuc, ◌≤ℤ◌};
 ghost use Rattle.cine_nums.specs.Fixed.{mul16, limit30, Within30};
 
-/// The product of `x` and the constant `c / 65536`, rounded to the nearest whole number, and upwards
-/// where two are as near: `(c * x + 32768) >> 16`, a floor. The answer lies within 2^46 of 0.
+/// The product of `x` and the constant `c / 65536`, rounded to the nearest whole number, and
+/// upwards where two are as near: `(c * x + 32768) >> 16`, a floor. The result lies within 2^46 of
+/// 0.
 #[inline]
 pub fn mul16(c: i32, x: i32) -> i64
     ensures value { result ≡ mul16 c x }

@@ -1,10 +1,12 @@
-//! The numbers and names that every part of the encoder shares: the rules of the two digital cinema profiles
-//! (ISO/IEC 15444-1, A.10) and the byte limits of a frame (DCI Digital Cinema System Specification), each
-//! standing here once; the orientation of a band; numbers in a string of bytes; halving with its rounding;
-//! and the fixed-point product and range of the wavelet transform.
+//! The numbers and names that every part of the encoder shares: the rules of the two digital cinema
+//! profiles (ISO/IEC 15444-1, A.10) and the byte limits of a frame (DCI Digital Cinema System
+//! Specification), each standing here once; the orientation of a band; numbers in a string of
+//! bytes; halving with its rounding; and the fixed-point product and range of the wavelet
+//! transform.
 //!
-//! Every call returns the value of a definition in `specs/`, takes no memory and refuses nothing. `specs/` also
-//! has the words of marker segments and of tables of faults, which the readers of Annex A share.
+//! Every call returns the value of a definition in `specs/`, takes no memory and refuses nothing.
+//! `specs/` also has the words of marker segments and of tables of faults, which the readers of
+//! Annex A share.
 //!
 //! ```
 //! assert_eq!(Profile::TwoK.levels(), 5);

@@ -1,7 +1,7 @@
 // Which filters made a band.
 
-/// The orientation of a band (ISO/IEC 15444-1, Annex B.5): the first letter is the horizontal filter,
-/// low or high pass, and the second the vertical one.
+/// The orientation of a band (ISO/IEC 15444-1, Annex B.5): the first letter is the horizontal
+/// filter, low or high pass, and the second the vertical one.
 #[derive(Clone, Copy, Debug, PartialEq, Eq)]
 pub enum Orient {
     /// What is left of the picture at the lowest resolution.

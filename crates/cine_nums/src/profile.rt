@@ -1,6 +1,7 @@
 // The two digital cinema profiles.
 ghost use Rattle.std.specs.Prelude.{◌≡◌};
-ghost use Rattle.cine_nums.specs.Profile.{levels_of, least_levels_of, guard_of, parts_of, max_width_of, max_height_of};
+ghost use Rattle.cine_nums.specs.Profile.{levels_of, least_levels_of, guard_of, parts_of};
+ghost use Rattle.cine_nums.specs.Profile.{max_width_of, max_height_of};
 
 /// A digital cinema profile of ISO/IEC 15444-1, Table A.10 (the values 3 and 4 of Rsiz).
 #[derive(Clone, Copy, Debug, PartialEq, Eq)]
@@ -22,8 +23,8 @@ impl Profile {
         }
     }
 
-    /// The fewest levels of the wavelet transform that a codestream of the profile may have: 0, or 1 for 4K,
-    /// whose frames have the 2K resolution below their own.
+    /// The fewest levels of the wavelet transform that a codestream of the profile may have: 0, or
+    /// 1 for 4K, whose frames have the 2K resolution below their own.
     pub fn least_levels(self) -> u8
         ensures { result ≡ least_levels_of self }
     {

@@ -1,5 +1,6 @@
 -- A function of three lists, place by place: its length, its places, and what holds of each.
-use Rattle.std.proofs.Common.{◌≡◌, ℕ, zero, suc, ◌<◌, List, [], ◌∷◌, length, get_or, refl, ap, arith, sym, ◌∙◌}
+use Rattle.std.proofs.Common.{◌≡◌, ℕ, zero, suc, ◌<◌, List, [], ◌∷◌, length, get_or, refl, ap}
+use Rattle.std.proofs.Common.{arith, sym, ◌∙◌}
 use Rattle.std.specs.List.{All}
 use Rattle.std.proofs.lemmas.List.{ext_get_or}
 use Rattle.std.proofs.lemmas.List.Elements.{All-nil, All-cons, All-head, All-tail}
@@ -13,7 +14,8 @@ length-pointwise f (x ∷ xs) (y ∷ ys) [] e1 e2 = absurd (omega (arith, e2))
 length-pointwise f (x ∷ xs) (y ∷ ys) (z ∷ zs) e1 e2 =
     ap (λ n. suc n) (length-pointwise f xs ys zs (omega (arith, e1)) (omega (arith, e2)))
 
-pub get_or-pointwise : {A B : Type 0} (f : A → A → A → B) (xs ys zs : List A) (k : ℕ) (d : A) (e : B) →
+pub get_or-pointwise : {A B : Type 0} (f : A → A → A → B) (xs ys zs : List A) (k : ℕ) (d : A)
+    (e : B) →
     length ys ≡ length xs → length zs ≡ length xs → k < length xs →
     get_or (pointwise f xs ys zs) k e ≡ f (get_or xs k d) (get_or ys k d) (get_or zs k d)
 get_or-pointwise f [] ys zs k d e e1 e2 lt = absurd (omega (arith, lt))
@@ -24,13 +26,15 @@ get_or-pointwise f (x ∷ xs) (y ∷ ys) (z ∷ zs) (suc k) d e e1 e2 lt =
     get_or-pointwise f xs ys zs k d e (omega (arith, e1)) (omega (arith, e2)) (omega (arith, lt))
 
 -- a list that has the function's value at each place is the pointwise list
-pub pointwise-from_places : {A B : Type 0} (f : A → A → A → B) (xs ys zs : List A) (out : List B) (d : A) (e : B) →
+pub pointwise-from_places : {A B : Type 0} (f : A → A → A → B) (xs ys zs : List A) (out : List B)
+    (d : A) (e : B) →
     length ys ≡ length xs → length zs ≡ length xs → length out ≡ length xs →
     ((k : ℕ) → k < length xs → get_or out k e ≡ f (get_or xs k d) (get_or ys k d) (get_or zs k d)) →
     out ≡ pointwise f xs ys zs
 pointwise-from_places f xs ys zs out d e e1 e2 e3 at =
     ext_get_or e out (pointwise f xs ys zs) (e3 ∙ sym (length-pointwise f xs ys zs e1 e2))
-    (λ k lt. at k (omega (arith, lt, e3)) ∙ sym (get_or-pointwise f xs ys zs k d e e1 e2 (omega (arith, lt, e3))))
+    (λ k lt. at k (omega (arith, lt, e3))
+    ∙ sym (get_or-pointwise f xs ys zs k d e e1 e2 (omega (arith, lt, e3))))
 
 -- what the function does to arguments with P holds of the whole list
 pub All-pointwise : {A B : Type 0} (P : A → Type 0) (Q : B → Type 0) (f : A → A → A → B) →
@@ -42,4 +46,5 @@ All-pointwise P Q f each (x ∷ xs) (y ∷ ys) [] px py pz = All-nil Q
 All-pointwise P Q f each (x ∷ xs) (y ∷ ys) (z ∷ zs) px py pz =
     All-cons Q (f x y z) (pointwise f xs ys zs)
     (each x y z (All-head P x xs px) (All-head P y ys py) (All-head P z zs pz))
-    (All-pointwise P Q f each xs ys zs (All-tail P x xs px) (All-tail P y ys py) (All-tail P z zs pz))
+    (All-pointwise P Q f each xs ys zs (All-tail P x xs px) (All-tail P y ys py)
+    (All-tail P z zs pz))

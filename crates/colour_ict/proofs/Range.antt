@@ -1,4 +1,5 @@
--- The transformed components of samples of 12 bits lie far inside the range of the wavelet transform.
+-- The transformed components of samples of 12 bits lie far inside the range of the wavelet
+-- transform.
 use Rattle.std.proofs.Common.{ℕ, ◌≤◌, ℤ, pos, negsuc, arith, subst, FitsSigned, w32}
 use Rattle.std.specs.Int.{int_shr}
 use Rattle.std.proofs.lemmas.Int.{ints}

@@ -1,8 +1,9 @@
--- The irreversible component transform (ISO/IEC 15444-1, Annex G.3), in fixed point, of samples of 12 bits.
+-- The irreversible component transform (ISO/IEC 15444-1, Annex G.3), in fixed point, of samples of
+-- 12 bits.
 use Rattle.std.specs.Prelude.{ℕ, ℤ, pos, neg_ℤ, ◌+ℤ◌, ◌-ℤ◌, ◌*ℤ◌}
 use Rattle.std.specs.Int.{int_shr}
 
--- a sample less half of its range (Annex G.1), with 13 bits behind the point
+-- a sample less half of its range (Annex G.1), with 13 bits after the point
 abbrev pub shifted : ℕ → ℤ
 shifted x = (pos x -ℤ pos 2048) *ℤ pos 8192
 

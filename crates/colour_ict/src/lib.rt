@@ -1,9 +1,9 @@
 //! The irreversible component transform of ISO/IEC 15444-1, Annex G.3, in fixed point.
 //!
-//! [`row`] turns three rows of samples of 12 bits into the three transformed components, with 13 bits
-//! behind the point. Its contract gives each place's exact value, by the matrix of the standard with
-//! its coefficients over 65,536, and says that the values lie in the range that the wavelet transform
-//! asks for.
+//! [`row`] turns three rows of samples of 12 bits into the three transformed components, with 13
+//! bits after the point. Its contract gives each place's exact value, by the matrix of the
+//! standard with its coefficients over 65,536, and says that the values lie in the range that the
+//! wavelet transform asks for.
 //!
 //! ```
 //! let (mut c0, mut c1, mut c2) = ([0; 1], [0; 1], [0; 1]);

@@ -1,4 +1,4 @@
-// The transform of one pixel. Over 2^16, a sum of samples with 13 bits behind the point is a sum of
+// The transform of one pixel. Over 2^16, a sum of samples with 13 bits after the point is a sum of
 // whole samples over 2^3, which fits 32 bits.
 ghost use Rattle.std.specs.Prelude.{◌≡◌, ◌≤◌, ◌≤ℤ◌, ◌+ℤ◌, ◌-ℤ◌, pos, negsuc};
 ghost use Rattle.std.specs.Int.{int_shr};

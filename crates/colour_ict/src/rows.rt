@@ -9,8 +9,8 @@ use crate::pixel;
 
 /// The irreversible component transform of a row of pixels, or of any run of them.
 ///
-/// Place i of the outputs has the three components of the pixel with the samples `x[i]`, `y[i]`, `z[i]`,
-/// which are at most 4095.
+/// Place i of the outputs has the three components of the pixel with the samples `x[i]`, `y[i]`,
+/// `z[i]`, which are at most 4095.
 pub fn row(x: &[u16], y: &[u16], z: &[u16], out0: &mut [i32], out1: &mut [i32], out2: &mut [i32])
     requires y_len { length y.now ≡ length x.now }
     requires z_len { length z.now ≡ length x.now }

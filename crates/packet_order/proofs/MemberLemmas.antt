@@ -1,18 +1,25 @@
 -- The packets of a tile-part are those whose precinct begins within the frame.
-use Rattle.std.proofs.Common.{◌≡◌, ℕ, zero, suc, ◌+◌, ◌-◌, ◌*◌, ◌^◌, ◌<◌, ◌≤◌, ◌==◌, inl, inr, Bool, true, false, cond, List, [], ◌++◌, map, arith, ◌∙◌, sym, ap, refl, subst, zero-add}
+use Rattle.std.proofs.Common.{◌≡◌, ℕ, zero, suc, ◌+◌, ◌-◌, ◌*◌, ◌^◌, ◌<◌, ◌≤◌, ◌==◌, inl, inr, Bool}
+use Rattle.std.proofs.Common.{true, false, cond, List, [], ◌++◌, map, arith, ◌∙◌, sym, ap, refl}
+use Rattle.std.proofs.Common.{subst, zero-add}
 use Rattle.std.specs.List.{flat_map, range_with_len, All, Contains}
 use Rattle.std.proofs.Math.Nat.{le-div_iff_mul-le}
 use Rattle.std.proofs.lemmas.Nat.{pow_pos}
 use Rattle.std.proofs.lemmas.Bool.{cases_lt, eqb-true, eq-eqb}
 use Rattle.std.proofs.lemmas.List.{flat_map_more}
-use Rattle.std.proofs.lemmas.List.Elements.{All-nil, All-append, All-map, Contains-append_left, Contains-append_right}
-use Rattle.std.proofs.lemmas.List.FromFn.{length-range_with_len, get_or-range_with_len, length-map-range_with_len, get_or-map-range_with_len}
+use Rattle.std.proofs.lemmas.List.Elements.{All-nil, All-append, All-map, Contains-append_left}
+use Rattle.std.proofs.lemmas.List.Elements.{Contains-append_right}
+use Rattle.std.proofs.lemmas.List.FromFn.{length-range_with_len, get_or-range_with_len}
+use Rattle.std.proofs.lemmas.List.FromFn.{length-map-range_with_len, get_or-map-range_with_len}
 use Rattle.std.proofs.lemmas.List.Sorted.{All-permutation, Contains-permutation}
 use Rattle.cine_nums.specs.Division.{div_up}
-use Rattle.band_geometry.specs.Sizes.{res_side, precinct_side, precinct_count}
-use Rattle.band_geometry.specs.Parts.{part_of_res}
+use Rattle.cine_nums.specs.Coding.{precinct_side}
+use Rattle.band_geometry.specs.Sizes.{res_side, precinct_count}
+use Rattle.band_geometry.specs.TileParts.{part_of_res}
 use Rattle.band_geometry.specs.declared.geometry.Geometry.{Geometry}
-use Rattle.packet_order.specs.Order.{place_of, IsPacketOf, packet_at, packets_of_row, packets_of_res, packets_of_res_in, packets_of_component, packets_of_part, ordered_packets}
+use Rattle.packet_order.specs.Order.{place_of, IsPacketOf, packet_at, packets_of_row}
+use Rattle.packet_order.specs.Order.{packets_of_res, packets_of_res_in, packets_of_component}
+use Rattle.packet_order.specs.Order.{packets_of_part, ordered_packets}
 use Rattle.packet_order.specs.declared.packet.PacketId.{PacketId}
 use Rattle.packet_order.proofs.SortingLemmas.{range_more}
 use Rattle.packet_order.proofs.SortedLemmas.{packets_permuted}
@@ -22,7 +29,8 @@ use Rattle.packet_order.proofs.SortedLemmas.{packets_permuted}
 -- so many pieces of d begin before n
 begins : (p n d : ℕ) → 0 < d → p < div_up n d → p * d < n
 begins p n d some below =
-    let whole : suc p * d ≤ n + (d - 1) = (le-div_iff_mul-le {x = suc p} {y = n + (d - 1)} some).0 below in
+    let whole : suc p * d ≤ n + (d - 1) =
+    (le-div_iff_mul-le {x = suc p} {y = n + (d - 1)} some).0 below in
     omega arith
 
 begun : (p n d : ℕ) → 0 < d → p * d < n → p < div_up n d
@@ -34,7 +42,8 @@ pub some_side : (r : ℕ) → 0 < precinct_side r
 some_side zero = omega arith
 some_side (suc r) = omega arith
 
-begins_within : (levels side r p : ℕ) → p < precinct_count levels side r → place_of levels r p < side
+begins_within : (levels side r p : ℕ) → p < precinct_count levels side r →
+    place_of levels r p < side
 begins_within levels side r p below =
     begins (p * precinct_side r) side (2 ^ (levels - r)) (pow_pos (levels - r))
     (begins p (res_side levels side r) (precinct_side r) (some_side r) below)
@@ -53,7 +62,8 @@ pieces_more f n =
     ap (λ m. flat_map f (range_with_len 0 m)) more ∙ ap (flat_map f) (range_more n) ∙
     sym (flat_map_more f [] (range_with_len 0 n) n)
 
-pub all_pieces : {A : Type 0} (P : A → Type 0) (f : ℕ → List A) (n : ℕ) → ((i : ℕ) → i < n → All P (f i)) →
+pub all_pieces : {A : Type 0} (P : A → Type 0) (f : ℕ → List A) (n : ℕ) →
+    ((i : ℕ) → i < n → All P (f i)) →
     All P (flat_map f (range_with_len 0 n))
 all_pieces P f zero each = All-nil P
 all_pieces {A} P f (suc n) each =
@@ -66,10 +76,12 @@ has_piece : {A : Type 0} (f : ℕ → List A) (n i : ℕ) (a : A) → i < n → 
 has_piece f zero i a below here = absurd (omega arith)
 has_piece {A} f (suc n) i a below here =
     subst (λ (l : List A). Contains l a) (sym (pieces_more f n)) (elim (cases_lt i n) [
-      | inl less ↦ Contains-append_left (flat_map f (range_with_len 0 n)) (f n) a (has_piece f n i a less here)
+      | inl less ↦ Contains-append_left (flat_map f (range_with_len 0 n)) (f n) a
+          (has_piece f n i a less here)
       | inr last ↦
           let same : i ≡ n = omega arith in
-          Contains-append_right (flat_map f (range_with_len 0 n)) (f n) a (subst (λ j. Contains (f j) a) same here)
+          Contains-append_right (flat_map f (range_with_len 0 n)) (f n) a
+          (subst (λ j. Contains (f j) a) same here)
     ])
 
 pub all_mapped : {A : Type 0} (P : A → Type 0) (f : ℕ → A) (n : ℕ) → ((i : ℕ) → i < n → P (f i)) →
@@ -79,9 +91,14 @@ all_mapped P f n each =
     let inside : k < n = omega (arith, below, length-range_with_len 0 n) in
     subst (λ i. P (f i)) (sym (get_or-range_with_len 0 n k d inside ∙ zero-add k)) (each k inside))
 
-has_mapped : {A : Type 0} (f : ℕ → A) (n i : ℕ) → i < n → Contains (map f (range_with_len 0 n)) (f i)
-has_mapped f n i below =
-    (i, omega (arith, length-map-range_with_len f 0 n), get_or-map-range_with_len f 0 n i i (f i) below (zero-add i))
+has_mapped : {A : Type 0} (f : ℕ → A) (n i : ℕ) → i < n →
+    Contains (map f (range_with_len 0 n)) (f i)
+has_mapped f n i below = (
+  i,
+  omega (arith, length-map-range_with_len f 0 n),
+  get_or-map-range_with_len f 0 n i i
+      (f i) below (zero-add i),
+)
 
 -- The packets of a tile-part.
 
@@ -89,15 +106,18 @@ has_mapped f n i below =
 abbrev pub IsWithin : Geometry → ℕ → ℕ → ℕ → PacketId → Type 0
 IsWithin g part c r p = IsPacketOf g part p × (p.component ≡ c) × (p.res ≡ r)
 
-pub packet_within : (g : Geometry) (part c r : ℕ) → c < 3 → r ≤ g.levels → All (IsWithin g part c r) (packets_of_res_in g part c r)
+pub packet_within : (g : Geometry) (part c r : ℕ) → c < 3 → r ≤ g.levels →
+    All (IsWithin g part c r) (packets_of_res_in g part c r)
 unfolding packets_of_res packets_of_row
 packet_within g part c r component res =
     let go : (t : Bool) → (part_of_res g.profile g.levels c r == part) ≡ t →
     All (IsWithin g part c r) (cond t (packets_of_res g c r) []) =
     λ t. elim t as (λ v. (part_of_res g.profile g.levels c r == part) ≡ v →
     All (IsWithin g part c r) (cond v (packets_of_res g c r) [])) [
-      | true ↦ λ is. all_pieces (IsWithin g part c r) (packets_of_row g c r) (precinct_count g.levels g.height r)
-          (λ py row. all_mapped (IsWithin g part c r) (packet_at c r py) (precinct_count g.levels g.width r)
+      | true ↦ λ is. all_pieces (IsWithin g part c r) (packets_of_row g c r)
+          (precinct_count g.levels g.height r)
+          (λ py row. all_mapped (IsWithin g part c r) (packet_at c r py)
+          (precinct_count g.levels g.width r)
           (λ px column. (
             record {
               component = component;
@@ -117,7 +137,8 @@ all_of_part : (g : Geometry) (part : ℕ) → All (IsPacketOf g part) (packets_o
 unfolding packets_of_part packets_of_component
 all_of_part g part =
     all_pieces (IsPacketOf g part) (packets_of_component g part) 3 (λ c component.
-    all_pieces (IsPacketOf g part) (packets_of_res_in g part c) (g.levels + 1) (λ r below k d inside.
+    all_pieces (IsPacketOf g part) (packets_of_res_in g part c) (g.levels + 1)
+    (λ r below k d inside.
     (packet_within g part c r component (omega (arith, below)) k d inside).0))
 
 has_in_res : (g : Geometry) (part : ℕ) (p : PacketId) → IsPacketOf g part p →
@@ -133,17 +154,22 @@ has_in_res g part p is =
     eq-eqb (part_of_res g.profile g.levels p.component p.res) part is.held in
     subst (λ t. Contains (cond t (packets_of_res g p.component p.res) []) p) (sym held) there
 
-has_in_part : (g : Geometry) (part : ℕ) (p : PacketId) → IsPacketOf g part p → Contains (packets_of_part g part) p
+has_in_part : (g : Geometry) (part : ℕ) (p : PacketId) → IsPacketOf g part p →
+    Contains (packets_of_part g part) p
 unfolding packets_of_part packets_of_component
 has_in_part g part p is =
     has_piece (packets_of_component g part) 3 p.component p is.component
     (has_piece (packets_of_res_in g part p.component) (g.levels + 1) p.res p
     (let res = is.res in omega arith) (has_in_res g part p is))
 
-pub ordered_are_packets : (g : Geometry) (part : ℕ) → All (IsPacketOf g part) (ordered_packets g part)
+pub ordered_are_packets : (g : Geometry) (part : ℕ) →
+    All (IsPacketOf g part) (ordered_packets g part)
 ordered_are_packets g part =
-    All-permutation (IsPacketOf g part) (packets_of_part g part) (ordered_packets g part) (packets_permuted g part) (all_of_part g part)
+    All-permutation (IsPacketOf g part) (packets_of_part g part) (ordered_packets g part)
+    (packets_permuted g part) (all_of_part g part)
 
-pub packets_are_ordered : (g : Geometry) (part : ℕ) (p : PacketId) → IsPacketOf g part p → Contains (ordered_packets g part) p
+pub packets_are_ordered : (g : Geometry) (part : ℕ) (p : PacketId) → IsPacketOf g part p →
+    Contains (ordered_packets g part) p
 packets_are_ordered g part p is =
-    Contains-permutation (packets_of_part g part) (ordered_packets g part) p (packets_permuted g part) (has_in_part g part p is)
+    Contains-permutation (packets_of_part g part) (ordered_packets g part) p
+    (packets_permuted g part) (has_in_part g part p is)

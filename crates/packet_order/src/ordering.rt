@@ -4,7 +4,8 @@ ghost use Rattle.std.specs.List.{insert, All, AllPairs, Contains};
 ghost use Rattle.std.specs.List.Sorted.{IsPermutation};
 ghost use Rattle.cine_nums.specs.Profile.{parts_of};
 ghost use Rattle.band_geometry.specs.Sizes.{precinct_count};
-ghost use Rattle.packet_order.specs.Order.{comes_before, IsPacketOf, packets_of_row, packets_of_res, packets_of_res_in};
+ghost use Rattle.packet_order.specs.Order.{comes_before, IsPacketOf, packets_of_row};
+ghost use Rattle.packet_order.specs.Order.{packets_of_res, packets_of_res_in};
 ghost use Rattle.packet_order.specs.Order.{packets_of_component, packets_of_part, ordered_packets};
 ghost use Rattle.packet_order.specs.Sorting.{insert_by, insert_all};
 ghost use Rattle.packet_order.specs.declared.packet.PacketId.{PacketId};
@@ -14,8 +15,9 @@ use crate::place::comes_first;
 use band_geometry::Geometry;
 use std::alloc::{AllocError, Global};
 
-/// The packets of a tile-part in the order in which they stand in it: sorted by the row, then by the
-/// column, then by the resolution of the place where their precinct begins on the reference grid.
+/// The packets of a tile-part in the order in which they stand in it: sorted by the row, then by
+/// the column, then by the resolution of the place where their precinct begins on the reference
+/// grid.
 ///
 /// `part` counts tile-parts from 0: 0 to 2 for 2K, 0 to 5 for 4K. A precinct without any code block
 /// has a packet too.
@@ -23,7 +25,8 @@ pub fn order(alloc: Global, geometry: &Geometry, part: u8) -> Result<Vec<PacketI
     requires { part < parts_of geometry.now.profile }
     ensures value { IfOk result (λ packets. packets.items ≡ ordered_packets geometry.now part) }
     ensures members { IfOk result (λ packets. IsPermutation (packets_of_part geometry.now part) packets.items) }
-    // Each precinct of the tile-part that begins within the frame has its packet there, and nothing else is there.
+    // Each precinct of the tile-part that begins within the frame has its packet there, and nothing
+    // else is there.
     ensures each { IfOk result (λ packets. All (IsPacketOf geometry.now part) packets.items) }
     ensures whole { IfOk result (λ packets. (p : PacketId) → IsPacketOf geometry.now part p → Contains packets.items p) }
     // Each comes before all later ones, so that none stands there twice.
@@ -36,7 +39,7 @@ pub fn order(alloc: Global, geometry: &Geometry, part: u8) -> Result<Vec<PacketI
     Ok(packets)
 }
 
-// Adds the packets of a component that the tile-part holds.
+/// Adds the packets of a component that the tile-part holds.
 fn add_component(
     packets: &mut Vec<PacketId>,
     geometry: &Geometry,
@@ -53,7 +56,7 @@ fn add_component(
     Ok(())
 }
 
-// Adds the packets of a resolution, if the tile-part holds it.
+/// Adds the packets of a resolution, if the tile-part holds it.
 fn add_res_of_part(
     packets: &mut Vec<PacketId>,
     geometry: &Geometry,
@@ -72,7 +75,7 @@ fn add_res_of_part(
     Ok(())
 }
 
-// Adds the packets of a resolution.
+/// Adds the packets of a resolution.
 fn add_res(
     packets: &mut Vec<PacketId>,
     geometry: &Geometry,
@@ -96,7 +99,7 @@ fn add_res(
     Ok(())
 }
 
-// Adds the packets of a row of precincts, given the first of them and their number.
+/// Adds the packets of a row of precincts, given the first of them and their number.
 fn add_row(
     packets: &mut Vec<PacketId>,
     geometry: &Geometry,
@@ -115,7 +118,7 @@ fn add_row(
     Ok(())
 }
 
-// Where a packet has to stand among packets that are sorted.
+/// Where a packet has to stand among packets that are sorted.
 fn place_among(packets: &[PacketId], geometry: &Geometry, id: PacketId) -> usize
     ensures within { result ≤ length packets.now }
     ensures place { insert packets.now result id ≡ insert_by (comes_before geometry.now) id packets.now }
@@ -145,8 +148,8 @@ mod tests {
         Ok(())
     }
 
-    // 300 samples have two precincts at resolution 5, the second one at the place 256; 20 rows more
-    // than 256 have two rows of them.
+    /// 300 samples have two precincts at resolution 5, the second one at the place 256; 20 rows
+    /// more than 256 have two rows of them.
     #[test]
     fn rows_come_before_columns(rt: HostRuntime) -> Result<(), Fail> {
         let packets = order(rt.alloc(), &Geometry::new(Profile::TwoK, 5, 300, 276), 1)?;

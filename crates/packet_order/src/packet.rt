@@ -1,7 +1,7 @@
 // Which packet is meant.
 
-/// Which packet is meant: with one quality layer, each precinct of each resolution of each component
-/// has one.
+/// Which packet is meant: with one quality layer, each precinct of each resolution of each
+/// component has one.
 #[derive(Clone, Copy, Debug, PartialEq, Eq)]
 pub struct PacketId {
     /// The component, from 0 on.

@@ -3,9 +3,10 @@ ghost use Rattle.std.specs.Prelude.{◌≡◌};
 ghost use Rattle.packet_order.specs.Order.{place_of, comes_before};
 
 use crate::packet::PacketId;
-use band_geometry::{Geometry, precinct_side};
+use band_geometry::Geometry;
+use cine_nums::precinct_side;
 
-// The place of a packet's precinct on the reference grid, across and down.
+/// The place of a packet's precinct on the reference grid, across and down.
 fn place(geometry: &Geometry, id: PacketId) -> (u64, u64)
     ensures across { result.0 ≡ place_of geometry.now.levels id.res id.px }
     ensures down { result.1 ≡ place_of geometry.now.levels id.res id.py }
@@ -18,7 +19,7 @@ fn place(geometry: &Geometry, id: PacketId) -> (u64, u64)
     )
 }
 
-// Whether one packet stands before another.
+/// Whether one packet stands before another.
 pub(crate) fn comes_first(geometry: &Geometry, a: PacketId, b: PacketId) -> bool
     ensures { result ≡ comes_before geometry.now a b }
 {

@@ -7,7 +7,9 @@ unfolding mul16
 returns-clause-value c = computed c.args.c c.args.x c.ranges.c c.ranges.x
 
 pub returns-clause-low : goal.returns-clause-low
-returns-clause-low c = rw (computed c.args.c c.args.x c.ranges.c c.ranges.x) (shifted_low _ (product_of c.args.c c.args.x c.ranges.c c.ranges.x))
+returns-clause-low c = rw (computed c.args.c c.args.x c.ranges.c c.ranges.x)
+    (shifted_low _ (product_of c.args.c c.args.x c.ranges.c c.ranges.x))
 
 pub returns-clause-high : goal.returns-clause-high
-returns-clause-high c = rw (computed c.args.c c.args.x c.ranges.c c.ranges.x) (shifted_high _ (product_of c.args.c c.args.x c.ranges.c c.ranges.x))
+returns-clause-high c = rw (computed c.args.c c.args.x c.ranges.c c.ranges.x)
+    (shifted_high _ (product_of c.args.c c.args.x c.ranges.c c.ranges.x))

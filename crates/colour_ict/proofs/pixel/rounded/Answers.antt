@@ -14,6 +14,8 @@ returns c =
     let c_fits : FitsSigned w32 c.args.c = omega (arith, ints) in
     let ab_fits : FitsSigned w32 (c.args.a +ℤ c.args.b) = omega (arith, ints) in
     let abc_fits : FitsSigned w32 ((c.args.a +ℤ c.args.b) +ℤ c.args.c) = omega (arith, ints) in
-    let sum_fits : FitsSigned w32 (((c.args.a +ℤ c.args.b) +ℤ c.args.c) +ℤ pos 4) = omega (arith, ints) in
-    let fits : FitsSigned w32 (int_shr (((c.args.a +ℤ c.args.b) +ℤ c.args.c) +ℤ pos 4) 3) = shr_fits _ sum_fits in
+    let sum_fits : FitsSigned w32 (((c.args.a +ℤ c.args.b) +ℤ c.args.c) +ℤ pos 4) =
+    omega (arith, ints) in
+    let fits : FitsSigned w32 (int_shr (((c.args.a +ℤ c.args.b) +ℤ c.args.c) +ℤ pos 4) 3) =
+    shr_fits _ sum_fits in
     simp to_z-of_z

@@ -18,4 +18,5 @@ returns c =
     omega (arith, c.loop-res-test.false, c.loop-res.auto.res-end) in
     c.loop-res.invariant ∙
     ap (λ n. insert_all (comes_before c.args.geometry.now) c.args.packets.now.items
-    (flat_map (packets_of_res_in c.args.geometry.now c.args.part c.args.component) (range_with_len 0 n))) whole
+    (flat_map (packets_of_res_in c.args.geometry.now c.args.part c.args.component)
+    (range_with_len 0 n))) whole

@@ -18,5 +18,6 @@ returns c =
     omega (arith, c.loop-py-test.false, c.loop-py.auto.py-end) in
     c.loop-py.invariant ∙
     ap (λ n. insert_all (comes_before c.args.geometry.now) c.args.packets.now.items
-    (flat_map (packets_of_row c.args.geometry.now c.args.component c.args.res) (range_with_len 0 n)))
+    (flat_map (packets_of_row c.args.geometry.now c.args.component c.args.res)
+    (range_with_len 0 n)))
     (whole ∙ c.precincts-across.ensures.down)

@@ -15,7 +15,8 @@ loop-px-preserved c =
 pub returns : goal.returns
 unfolding packets_of_row
 returns c =
-    let whole : c.loop-px.px ≡ c.args.across = omega (arith, c.loop-px-test.false, c.loop-px.auto.px-end) in
+    let whole : c.loop-px.px ≡ c.args.across =
+    omega (arith, c.loop-px-test.false, c.loop-px.auto.px-end) in
     c.loop-px.invariant ∙
     ap (λ n. insert_all (comes_before c.args.geometry.now) c.args.packets.now.items
     (map (packet_at c.args.first.component c.args.first.res c.args.first.py) (range_with_len 0 n)))

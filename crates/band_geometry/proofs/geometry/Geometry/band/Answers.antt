@@ -17,7 +17,8 @@ returns-in-LL-clause-standard_width c =
 
 pub returns-in_default-clause-standard_width : goal.returns-in_default-clause-standard_width
 returns-in_default-clause-standard_width c =
-    standard_width c.args.self.now c.args.res c.args.orient _ c.requires (ap (λ b. b.width) c.detail_band.ensures)
+    standard_width c.args.self.now c.args.res c.args.orient _ c.requires
+    (ap (λ b. b.width) c.detail_band.ensures)
 
 pub returns-in-LL-clause-standard_height : goal.returns-in-LL-clause-standard_height
 returns-in-LL-clause-standard_height c =
@@ -25,4 +26,5 @@ returns-in-LL-clause-standard_height c =
 
 pub returns-in_default-clause-standard_height : goal.returns-in_default-clause-standard_height
 returns-in_default-clause-standard_height c =
-    standard_height c.args.self.now c.args.res c.args.orient _ c.requires (ap (λ b. b.height) c.detail_band.ensures)
+    standard_height c.args.self.now c.args.res c.args.orient _ c.requires
+    (ap (λ b. b.height) c.detail_band.ensures)

@@ -20,7 +20,8 @@ pub block_in_component-requires-clause-component : goal.block_in_component-requi
 block_in_component-requires-clause-component c = (grid c).row
 
 pub block_in_component-requires-clause-place : goal.block_in_component-requires-clause-place
-block_in_component-requires-clause-place c = omega (arith, (grid c).column, c.blocks_below-each.ensures.count)
+block_in_component-requires-clause-place c =
+    omega (arith, (grid c).column, c.blocks_below-each.ensures.count)
 
 pub returns-clause-value : goal.returns-clause-value
 returns-clause-value c =

@@ -1,6 +1,6 @@
 use Rattle.std.proofs.Common.{◌∙◌, ap}
 use Rattle.cine_nums.specs.Division.{div_up}
-use Rattle.band_geometry.specs.Sizes.{precinct_side}
+use Rattle.cine_nums.specs.Coding.{precinct_side}
 use Rattle.band_geometry.proofs.PrecinctLemmas.{blocks_in_precincts}
 use Rattle.band_geometry.proofs.geometry.Geometry.precincts.Goals as goal
 

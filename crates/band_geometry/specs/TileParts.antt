@@ -1,5 +1,6 @@
--- Tile-parts: a 2K codestream has one for each component; a 4K codestream has one for each component
--- without its largest resolution, and behind these one for the largest resolution of each component.
+-- Tile-parts: a 2K codestream has one for each component; a 4K codestream has one for each
+-- component without its largest resolution, and after these one for the largest resolution of each
+-- component.
 use Rattle.std.specs.Prelude.{ℕ, ◌+◌, nat_lt, if◌then◌else◌}
 use Rattle.cine_nums.specs.declared.profile.Profile.{Profile}
 use Rattle.cine_nums.specs.declared.profile.Profile.TheVariants.{TwoK, FourK}

@@ -8,10 +8,10 @@ use cine_nums::Profile;
 
 impl Geometry {
     ghost use Rattle.band_geometry.specs.Bands.{IsBlock};
-    ghost use Rattle.band_geometry.specs.Parts.{part_of_res};
+    ghost use Rattle.band_geometry.specs.TileParts.{part_of_res};
 
-    /// The tile-part, counted from 0, that holds resolution `res` of a component. In 2K it is that of
-    /// the component. In 4K the tile-parts 0 to 2 hold the components without their largest
+    /// The tile-part, counted from 0, that holds resolution `res` of a component. In 2K it is that
+    /// of the component. In 4K the tile-parts 0 to 2 hold the components without their largest
     /// resolution, which the tile-parts 3 to 5 hold.
     pub fn part_at(&self, component: u8, res: u8) -> u8
         requires { component < 3 }
@@ -31,7 +31,7 @@ impl Geometry {
     }
 
     /// The tile-part, counted from 0, that holds a code block: the one with its resolution of its
-    /// component, as `part_at` tells.
+    /// component, by `part_at`.
     pub fn part_of(&self, id: BlockId) -> u8
         requires { IsBlock self.now id }
         ensures value { result ≡ part_of_res self.now.profile self.now.levels id.component id.res }
