@@ -6,8 +6,8 @@ use Rattle.cine_nums.specs.Profile.{levels_of}
 use Rattle.cine_nums.specs.declared.profile.Profile.{Profile}
 use Rattle.cine_nums.specs.declared.profile.Profile.TheVariants.{TwoK, FourK}
 use Rattle.dz_quantiser.specs.Bands.{built_in_step, built_in_above, built_in_bands}
-use Rattle.dz_quantiser.specs.declared.steps.BandStep.{BandStep}
-use Rattle.dz_quantiser.specs.declared.steps.Steps.{Steps}
+use Rattle.dz_quantiser.specs.declared.band.BandStep.{BandStep}
+use Rattle.dz_quantiser.specs.declared.steps.StepSizes.{StepSizes}
 
 -- the steps of all bands have what each built-in step has
 above : (Fits : BandStep → Type 0) (n : ℕ) → n ≤ 6 → ((k : ℕ) → k ≤ 6 → Fits (built_in_step k)) → All Fits (built_in_above n)
@@ -19,7 +19,7 @@ above Fits (suc n) le each =
     All-cons Fits step (step ∷ step ∷ below) here
     (All-cons Fits step (step ∷ below) here (All-cons Fits step below here (above Fits n (omega arith) each)))
 
-all : (Fits : BandStep → Type 0) (profile : Profile) (steps : Steps) → steps.bands.items ≡ built_in_bands (levels_of profile) →
+all : (Fits : BandStep → Type 0) (profile : Profile) (steps : StepSizes) → steps.bands.items ≡ built_in_bands (levels_of profile) →
     ((k : ℕ) → k ≤ 6 → Fits (built_in_step k)) → All Fits steps.bands.items
 all Fits profile steps are each =
     let levels = levels_of profile in
@@ -30,10 +30,10 @@ all Fits profile steps are each =
     levels_few TwoK = omega arith
     levels_few FourK = omega arith
 
-pub exponents_fit : (profile : Profile) (steps : Steps) → steps.bands.items ≡ built_in_bands (levels_of profile) →
+pub exponents_fit : (profile : Profile) (steps : StepSizes) → steps.bands.items ≡ built_in_bands (levels_of profile) →
     All (λ step. step.exponent < 32) steps.bands.items
 exponents_fit profile steps are = all (λ step. step.exponent < 32) profile steps are (λ k le. omega arith)
 
-pub mantissas_fit : (profile : Profile) (steps : Steps) → steps.bands.items ≡ built_in_bands (levels_of profile) →
+pub mantissas_fit : (profile : Profile) (steps : StepSizes) → steps.bands.items ≡ built_in_bands (levels_of profile) →
     All (λ step. step.mantissa < 2048) steps.bands.items
 mantissas_fit profile steps are = all (λ step. step.mantissa < 2048) profile steps are (λ k le. omega arith)

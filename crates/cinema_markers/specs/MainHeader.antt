@@ -4,8 +4,8 @@ use Rattle.std.specs.Prelude.{ℕ, ◌+◌, ◌*◌, List, [], ◌∷◌, ◌++�
 use Rattle.std.specs.List.{flat_map}
 use Rattle.cine_nums.specs.declared.profile.Profile.{Profile}
 use Rattle.cine_nums.specs.declared.profile.Profile.TheVariants.{TwoK, FourK}
-use Rattle.dz_quantiser.specs.declared.steps.BandStep.{BandStep}
-use Rattle.dz_quantiser.specs.declared.steps.Steps.{Steps}
+use Rattle.dz_quantiser.specs.declared.band.BandStep.{BandStep}
+use Rattle.dz_quantiser.specs.declared.steps.StepSizes.{StepSizes}
 use Rattle.cinema_markers.specs.declared.fields.Field.{Field}
 use Rattle.cinema_markers.specs.declared.fields.Field.TheVariants.{Byte, Short, Long}
 use Rattle.cinema_markers.specs.declared.header.MainHeader.{MainHeader}
@@ -52,7 +52,7 @@ step_field step = Short (step.exponent * 2048 + step.mantissa)
 
 -- quantisation (A.6.4): the guard bits above the style, in which each band has a step of its own; and the
 -- steps of all bands, LL first
-abbrev pub qcd : ℕ → Steps → List Field
+abbrev pub qcd : ℕ → StepSizes → List Field
 qcd levels steps =
     Short 0xFF5C ∷ Short (5 + 6 * levels) ∷ Byte (steps.guard * 32 + 2) ∷ map step_field steps.bands.items
 

@@ -2,7 +2,7 @@
 
 use arrayvec::ArrayVec;
 use cine_nums::Profile;
-use dz_quantiser::Steps;
+use dz_quantiser::StepSizes;
 
 /// What the main header of a codestream with three components tells (ISO/IEC 15444-1, Annex A.5 to A.7).
 #[derive(Drop)]
@@ -20,7 +20,7 @@ pub struct MainHeader {
     /// components 0, 1 and 2 are transformed, by the irreversible transform with the 9-7 wavelet.
     pub flag: u8,
     /// The guard bits, and the step of each band in the order of QCD.
-    pub steps: Steps,
+    pub steps: StepSizes,
     /// The lengths that TLM tells, in the order of the tile-parts: the bytes of each from its marker SOT
     /// on. There are 3 tile-parts in the 2K profile, and 6 in the 4K profile.
     pub parts: ArrayVec<u32, 6>,

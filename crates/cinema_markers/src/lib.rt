@@ -11,7 +11,7 @@
 //!     height: 1080,
 //!     levels: 5,
 //!     flag: 1,
-//!     steps: Steps::built_in(Profile::TwoK),
+//!     steps: StepSizes::built_in(Profile::TwoK),
 //!     parts,
 //!     parts_at: ArrayVec::new(),
 //! };

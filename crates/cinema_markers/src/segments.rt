@@ -8,7 +8,7 @@ ghost use Rattle.cinema_markers.specs.MainHeader.{rsiz, soc, siz, precinct_sizes
 use crate::fields::{Field, push_fields};
 use arrayvec::ArrayVec;
 use cine_nums::Profile;
-use dz_quantiser::{BandStep, Steps};
+use dz_quantiser::{BandStep, StepSizes};
 
 // The markers (Table A.2).
 const SOC: u16 = 0xFF4F;
@@ -125,7 +125,7 @@ fn step_field(step: BandStep) -> Field
 }
 
 /// Appends the quantisation: the guard bits, and the step of each band of so many levels.
-pub fn push_qcd(out: &mut ArrayVec<u8, 192>, levels: u8, steps: &Steps)
+pub fn push_qcd(out: &mut ArrayVec<u8, 192>, levels: u8, steps: &StepSizes)
     requires room { array_vec_len out.old ≤ 100 }
     requires levels { levels ≤ 6 }
     requires guard { steps.now.guard ≤ 7 }

@@ -6,7 +6,7 @@ use crate::header::MainHeader;
 use crate::write::main_bytes;
 use arrayvec::ArrayVec;
 use cine_nums::Profile;
-use dz_quantiser::Steps;
+use dz_quantiser::StepSizes;
 
 /// The header of a frame of the 2K profile with one pixel, whose three tile-parts have 20 bytes each.
 #[rattlefmt::skip]
@@ -55,7 +55,7 @@ fn bytes_of(profile: Profile, width: u32, height: u32) -> ArrayVec<u8, 192>
         height,
         levels: profile.levels(),
         flag: 1,
-        steps: Steps::built_in(profile),
+        steps: StepSizes::built_in(profile),
         parts,
         parts_at: ArrayVec::new(),
     })

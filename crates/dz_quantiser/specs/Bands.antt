@@ -1,10 +1,11 @@
 -- The bands of a component in the order of the QCD segment (ISO/IEC 15444-1, Annex A.6.4), with their
--- ranges and numbers of magnitude bit planes (Annex E.1) and the built-in steps.
-use Rattle.std.specs.Prelude.{◌≡◌, ℕ, zero, suc, ◌+◌, ◌-◌, ◌*◌, ◌<◌, ◌≤◌, List, [], ◌∷◌, length, slice_index_or}
+-- ranges and numbers of magnitude bit-planes (Annex E.1) and the built-in steps.
+use Rattle.std.specs.Prelude.{◌≡◌, ℕ, zero, suc, ◌+◌, ◌-◌, ◌*◌, ◌≤◌, List, [], ◌∷◌, length, slice_index_or}
 use Rattle.cine_nums.specs.declared.orient.Orient.{Orient}
 use Rattle.cine_nums.specs.declared.orient.Orient.TheVariants.{LL, HL, LH, HH}
-use Rattle.dz_quantiser.specs.declared.steps.BandStep.{BandStep}
-use Rattle.dz_quantiser.specs.declared.steps.Steps.{Steps}
+use Rattle.dz_quantiser.specs.Usable.{IsUsable}
+use Rattle.dz_quantiser.specs.declared.band.BandStep.{BandStep}
+use Rattle.dz_quantiser.specs.declared.steps.StepSizes.{StepSizes}
 
 -- the place of a band of resolution r: LL, then HL, LH, HH of resolution 1, those of resolution 2, ..
 abbrev pub band_number : ℕ → Orient → ℕ
@@ -20,7 +21,7 @@ range_of HL = 13
 range_of LH = 13
 range_of HH = 14
 
--- the magnitude bit planes of a band with this exponent (E-2)
+-- the magnitude bit-planes of a band with this exponent (E-2)
 abbrev pub planes_of : ℕ → ℕ → ℕ
 planes_of guard exponent = guard + exponent - 1
 
@@ -38,21 +39,21 @@ built_in_above (suc n) =
 abbrev pub built_in_bands : ℕ → List BandStep
 built_in_bands levels = built_in_step levels ∷ built_in_above levels
 
--- a step that the quantiser takes: the exponent is at least the band's range and at most 24, the mantissa
--- has 11 bits, and there are 1 to 20 magnitude bit planes
-pub record IsUsable (guard range : ℕ) (step : BandStep) : Type 0 where
-  pub exponent_low : range ≤ step.exponent
-  pub exponent_high : step.exponent ≤ 24
-  pub mantissa : step.mantissa < 2048
-  pub planes_low : 1 ≤ planes_of guard step.exponent
-  pub planes_high : planes_of guard step.exponent ≤ 20
-
--- the step of a band
-abbrev pub step_of : Steps → ℕ → Orient → BandStep
+-- the step of a band, and its number of magnitude bit-planes
+abbrev pub step_of : StepSizes → ℕ → Orient → BandStep
 step_of steps r o = slice_index_or steps.bands.items (band_number r o) (record { exponent = 0; mantissa = 0 })
 
--- there is one step a band of so many levels, and each is one that the quantiser takes
-pub record AreUsable (levels : ℕ) (steps : Steps) : Type 0 where
+abbrev pub band_planes : StepSizes → ℕ → Orient → ℕ
+band_planes steps r o = planes_of steps.guard (step_of steps r o).exponent
+
+-- the quantiser takes the step of a band
+abbrev pub IsUsableAt : StepSizes → ℕ → Orient → Type 0
+IsUsableAt steps r o = IsUsable (range_of o) (band_planes steps r o) (step_of steps r o)
+
+-- The quantiser takes these steps for a component of so many levels: the guard bits are at most 7 (QCD
+-- has 3 bits for them), there is one step a band, and it takes each.
+pub record AreUsable (levels : ℕ) (steps : StepSizes) : Type 0 where
+  pub guard : steps.guard ≤ 7
   pub count : length steps.bands.items ≡ 3 * levels + 1
-  pub lowest : IsUsable steps.guard 12 (step_of steps 0 LL)
-  pub above : (r : ℕ) (o : Orient) → 1 ≤ r → r ≤ levels → IsUsable steps.guard (range_of o) (step_of steps r o)
+  pub lowest : IsUsableAt steps 0 LL
+  pub above : (r : ℕ) (o : Orient) → 1 ≤ r → r ≤ levels → IsUsableAt steps r o

@@ -1,4 +1,4 @@
-// The error that is left while the lowest bit planes of an index are unknown.
+// The error that is left while the lowest bit-planes of an index are unknown.
 ghost use Rattle.std.specs.Prelude.{◌≡◌, ◌*◌, ◌<◌, ◌≤◌, ◌^◌};
 ghost use Rattle.dz_quantiser.specs.Error.{middle, squared_error};
 
@@ -17,7 +17,7 @@ fn middle(bits: u32, unknown: u8) -> u32
     }
 }
 
-/// The squared error of an index of this magnitude whose lowest `unknown` bit planes are unknown, in
+/// The squared error of an index of this magnitude whose lowest `unknown` bit-planes are unknown, in
 /// units of half a step: between the middle of the sizes that have the index, and the middle of those
 /// that have its known bits, or 0 where these are all 0 (ISO/IEC 15444-1, Annex E.1).
 #[inline]

@@ -4,34 +4,25 @@ ghost use Rattle.arrayvec.specs.ArrayVec.{array_vec_len};
 ghost use Rattle.cine_nums.specs.Levels.{band_level};
 ghost use Rattle.cine_nums.specs.Profile.{guard_of, levels_of};
 ghost use Rattle.cine_nums.specs.declared.orient.Orient.{Orient};
-ghost use Rattle.dz_quantiser.specs.Bands.{band_number, range_of, planes_of, built_in_step, built_in_bands, step_of, IsUsable, AreUsable};
+ghost use Rattle.dz_quantiser.specs.Bands.{band_number, range_of, planes_of, band_planes, built_in_step, built_in_bands, step_of, IsUsableAt, AreUsable};
 
+use crate::band::{BandQuantiser, BandStep};
 use arrayvec::ArrayVec;
 use cine_nums::{Orient, Profile};
 
-/// The step of a band, as the QCD segment spells it (ISO/IEC 15444-1, Table A.30):
-/// `2^(range - exponent) * (1 + mantissa / 2^11)`, with the band's [`range`].
-#[derive(Clone, Copy, Debug, Default, PartialEq, Eq)]
-pub struct BandStep {
-    /// 5 bits.
-    pub exponent: u8,
-    /// 11 bits.
-    pub mantissa: u16,
-}
-
 /// The steps of all bands of a component, the same for each of the three.
 #[derive(Drop)]
-pub struct Steps {
+pub struct StepSizes {
     /// The guard bits.
     pub guard: u8,
     /// One step a band, in the order of the QCD segment, which [`band_number`] gives.
     pub bands: ArrayVec<BandStep, 19>,
 }
 
-impl Steps {
+impl StepSizes {
     /// The steps and guard bits that the encoder uses. A band of level n has the exponent `13 + n` and
     /// the mantissa 0; resolution 0 has the level of the profile's lowest bands.
-    pub fn built_in(profile: Profile) -> Steps
+    pub fn built_in(profile: Profile) -> StepSizes
         ensures guard { result.guard ≡ guard_of profile }
         ensures bands { result.bands.items ≡ built_in_bands (levels_of profile) }
         // The band at each place has its level.
@@ -48,7 +39,7 @@ impl Steps {
             bands.push(step);
             bands.push(step);
         }
-        Steps {
+        StepSizes {
             guard: profile.guard(),
             bands,
         }
@@ -67,15 +58,35 @@ impl Steps {
         self.bands[usize::from(band_number(levels, res, orient))]
     }
 
-    /// Whether [`index`](crate::index) takes these steps for a component of `levels` levels: there is one
-    /// step a band (ISO/IEC 15444-1, Annex A.6.4), and each has an exponent of at least the band's
-    /// [`range`] in bits, a mantissa of 11 bits, and with the guard bits at most 20 magnitude bit planes
-    /// (Annex E.1), so that no exponent is above 21.
+    /// What the quantiser needs of a band of resolution `res`. Resolution 0 has LL alone, and no
+    /// other resolution has it.
+    pub fn band(&self, levels: u8, res: u8, orient: Orient) -> BandQuantiser
+        requires levels { levels ≤ 6 }
+        requires usable { AreUsable levels self.now }
+        requires res { res ≤ levels }
+        requires lowest { res ≡ 0 → orient ≡ Orient.LL }
+        requires above { orient ≡ Orient.LL → res ≡ 0 }
+        ensures step { result.step ≡ step_of self.now res orient }
+        ensures range { result.range ≡ range_of orient }
+        ensures planes { result.planes ≡ band_planes self.now res orient }
+    {
+        let step = self.step(levels, res, orient);
+        BandQuantiser {
+            step,
+            range: range(orient),
+            planes: planes(self.guard, step),
+        }
+    }
+
+    /// Whether the quantiser takes these steps for a component of `levels` levels: the guard bits are
+    /// at most 7, there is one step a band (ISO/IEC 15444-1, Annex A.6.4), and each has an exponent of
+    /// at least the band's [`range`] in bits, a mantissa of 11 bits, and with the guard bits 1 to 20
+    /// magnitude bit-planes (Annex E.1), so that no exponent is above 21.
     pub fn are_usable(&self, levels: u8) -> bool
         requires { levels ≤ 6 }
         ensures { IsTrue result ↔ AreUsable levels self.now }
     {
-        if self.bands.len() != 3 * usize::from(levels) + 1 {
+        if self.guard > 7 || self.bands.len() != 3 * usize::from(levels) + 1 {
             return false;
         }
         if !self.is_usable_at(levels, 0, Orient::LL) {
@@ -92,18 +103,21 @@ impl Steps {
         true
     }
 
-    /// Whether the step of a band is one that [`index`](crate::index) takes.
+    /// Whether the quantiser takes the step of a band.
     fn is_usable_at(&self, levels: u8, res: u8, orient: Orient) -> bool
         requires levels { levels ≤ 6 }
+        requires guard { self.now.guard ≤ 7 }
         requires count { array_vec_len self.now.bands ≡ 3 * levels + 1 }
         requires res { res ≤ levels }
         requires lowest { res ≡ 0 → orient ≡ Orient.LL }
         requires above { orient ≡ Orient.LL → res ≡ 0 }
-        ensures { IsTrue result ↔ IsUsable self.now.guard (range_of orient) (step_of self.now res orient) }
+        ensures { IsTrue result ↔ IsUsableAt self.now res orient }
     {
         let step = self.step(levels, res, orient);
-        let planes = (u16::from(self.guard) + u16::from(step.exponent)).saturating_sub(1);
-        range(orient) <= step.exponent && step.mantissa < 2048 && planes <= 20
+        range(orient) <= step.exponent
+            && step.exponent <= 24
+            && step.mantissa < 2048
+            && planes(self.guard, step) <= 20
     }
 }
 
@@ -147,7 +161,7 @@ pub fn range(orient: Orient) -> u8
     }
 }
 
-/// The number of magnitude bit planes of a band: the guard bits and the exponent of its step, less 1
+/// The number of magnitude bit-planes of a band: the guard bits and the exponent of its step, less 1
 /// (E-2), and 0 where both are 0.
 pub fn planes(guard: u8, step: BandStep) -> u8
     requires guard { guard ≤ 7 }
@@ -163,7 +177,7 @@ mod tests {
 
     #[test]
     fn steps_are_usable_where_each_band_has_one_in_range(rt: HostRuntime) {
-        let steps = Steps::built_in(Profile::TwoK);
+        let steps = StepSizes::built_in(Profile::TwoK);
         assert!(rt; steps.are_usable(5));
         assert!(rt; !steps.are_usable(4));
         let mut bands = ArrayVec::new();
@@ -171,6 +185,6 @@ mod tests {
             exponent: 11,
             mantissa: 0,
         });
-        assert!(rt; !Steps { guard: 1, bands }.are_usable(0));
+        assert!(rt; !StepSizes { guard: 1, bands }.are_usable(0));
     }
 }

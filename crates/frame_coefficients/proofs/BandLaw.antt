@@ -10,8 +10,8 @@ use Rattle.band_geometry.specs.Sizes.{res_side}
 use Rattle.band_geometry.specs.declared.geometry.Geometry.{Geometry}
 use Rattle.band_geometry.proofs.PlaneLemmas.{column_in_plane, row_in_plane}
 use Rattle.band_geometry.proofs.SideLemmas.{res_side-monotone}
-use Rattle.dz_quantiser.specs.declared.coef.Coef.{Coef}
-use Rattle.dz_quantiser.specs.declared.steps.Steps.{Steps}
+use Rattle.dz_quantiser.specs.Coefficient.{Coefficient}
+use Rattle.dz_quantiser.specs.declared.steps.StepSizes.{StepSizes}
 use Rattle.frame_coefficients.specs.Places.{res_at, orient_of, index_in, coef_at, quantised}
 use Rattle.frame_coefficients.proofs.Resolutions.{res_of-below}
 use Rattle.frame_coefficients.proofs.Rows.{res_is, column_is, row_is}
@@ -79,7 +79,7 @@ band_is g r HH x y has place =
     (res_high g.levels g.width r x has.orient has.res place.left place.right)
     (res_high g.levels g.height r y has.orient has.res place.top place.bottom)
 
-pub coef_in_band : (g : Geometry) (steps : Steps) (cells : List ℤ) (r : ℕ) (o : Orient) (x y : ℕ) (d : Coef) →
+pub coef_in_band : (g : Geometry) (steps : StepSizes) (cells : List ℤ) (r : ℕ) (o : Orient) (x y : ℕ) (d : Coefficient) →
     length cells ≡ g.height * g.width → HasBand g r o → IsPlaceIn (band_of g r o) x y →
     get_or (quantised g.levels g.width g.height steps cells) (y * g.width + x) d ≡ index_in steps r o (get_or cells (y * g.width + x) (pos 0))
 unfolding quantised coef_at

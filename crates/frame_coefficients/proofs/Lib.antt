@@ -2,4 +2,4 @@ mod BandLaw
 mod BandSteps
 mod Resolutions
 mod Rows
-mod Unknown
+mod Undecoded

@@ -8,9 +8,9 @@ use Rattle.band_geometry.specs.Sizes.{res_side}
 use Rattle.band_geometry.proofs.SideLemmas.{res_side-monotone}
 use Rattle.dz_quantiser.specs.Bands.{AreUsable, step_of, range_of, planes_of}
 use Rattle.dz_quantiser.specs.Index.{index_of}
-use Rattle.dz_quantiser.specs.declared.steps.BandStep.{BandStep}
-use Rattle.dz_quantiser.specs.declared.coef.Coef.{Coef}
-use Rattle.dz_quantiser.specs.declared.steps.Steps.{Steps}
+use Rattle.dz_quantiser.specs.declared.band.BandStep.{BandStep}
+use Rattle.dz_quantiser.specs.Coefficient.{Coefficient}
+use Rattle.dz_quantiser.specs.declared.steps.StepSizes.{StepSizes}
 use Rattle.frame_coefficients.specs.Places.{res_at, orient_of, index_at, coef_at, quantised}
 use Rattle.frame_coefficients.proofs.BandSteps.{index-small}
 use Rattle.frame_coefficients.proofs.Resolutions.{res_of-is, res_of-le}
@@ -50,7 +50,7 @@ res_is levels side r i within from to =
     outside (suc r) from some = let less : suc r - 1 ≡ r = omega arith in rw less from
 
 -- the coefficient of a cell in such a column
-pub coef_in_column : (levels width height : ℕ) (steps : Steps) (cells : List ℤ) (y c k : ℕ) → c ≤ levels →
+pub coef_in_column : (levels width height : ℕ) (steps : StepSizes) (cells : List ℤ) (y c k : ℕ) → c ≤ levels →
     y * width + before (res_side levels width) c ≤ k → k < y * width + res_side levels width c → k < y * width + width →
     coef_at levels width height steps cells k ≡ index_at steps c (res_at levels height y) (get_or cells k (pos 0))
 unfolding coef_at
@@ -62,21 +62,21 @@ coef_in_column levels width height steps cells y c k within from to end =
     rw (x, row, column) refl
 
 -- what a band is told by its step, range and planes
-pub index_at-is : (steps : Steps) (c r : ℕ) (v : ℤ) (step : BandStep) (range planes : ℕ) →
+pub index_at-is : (steps : StepSizes) (c r : ℕ) (v : ℤ) (step : BandStep) (range planes : ℕ) →
     step ≡ step_of steps (max c r) (orient_of c r) → range ≡ range_of (orient_of c r) →
     planes ≡ planes_of steps.guard step.exponent →
     index_of v step range planes ≡ index_at steps c r v
 index_at-is steps c r v step range planes step_is range_is planes_is = rw (planes_is, range_is, step_is) refl
 
 -- each coefficient is below 2 ^ 20
-coef_at-small : (levels width height : ℕ) (steps : Steps) (cells : List ℤ) (k : ℕ) → AreUsable levels steps →
+coef_at-small : (levels width height : ℕ) (steps : StepSizes) (cells : List ℤ) (k : ℕ) → AreUsable levels steps →
     (coef_at levels width height steps cells k).magnitude < 2 ^ 20
 unfolding coef_at
 coef_at-small levels width height steps cells k are =
     index-small levels (res_at levels width (k % width)) (res_at levels height (k / width)) steps (get_or cells k (pos 0)) are
     (res_of-le (res_side levels width) levels (k % width)) (res_of-le (res_side levels height) levels (k / width))
 
-pub quantised-small : (levels width height : ℕ) (steps : Steps) (cells : List ℤ) → AreUsable levels steps →
+pub quantised-small : (levels width height : ℕ) (steps : StepSizes) (cells : List ℤ) → AreUsable levels steps →
     All (λ q. q.magnitude < 2 ^ 20) (quantised levels width height steps cells)
 unfolding quantised
 quantised-small levels width height steps cells are =
@@ -84,11 +84,11 @@ quantised-small levels width height steps cells are =
     (λ k d lt. coef_at-small levels width height steps cells _ are)
 
 -- a list with the coefficient of each place
-pub quantised-from : (levels width height : ℕ) (steps : Steps) (cells : List ℤ) (coefs : List Coef) →
+pub quantised-from : (levels width height : ℕ) (steps : StepSizes) (cells : List ℤ) (coefs : List Coefficient) →
     length coefs ≡ length cells →
-    ((k : ℕ) (d : Coef) → k < length cells → get_or coefs k d ≡ coef_at levels width height steps cells k) →
+    ((k : ℕ) (d : Coefficient) → k < length cells → get_or coefs k d ≡ coef_at levels width height steps cells k) →
     coefs ≡ quantised levels width height steps cells
 unfolding quantised
 quantised-from levels width height steps cells coefs len at =
-    let none : Coef = record { magnitude = 0; negative = false } in
+    let none : Coefficient = record { magnitude = 0; negative = false } in
     fill_by_all (coef_at levels width height steps cells) coefs (length cells) none len (λ k lt. at k none lt)

@@ -3,10 +3,10 @@
 use Rattle.std.specs.Prelude.{ℕ, zero, suc, ◌+◌, ℤ, List}
 use Rattle.colour_ict.specs.Ict.{component0, component1, component2}
 use Rattle.colour_ict.specs.Pointwise.{pointwise}
-use Rattle.dz_quantiser.specs.declared.coef.Coef.{Coef}
-use Rattle.dz_quantiser.specs.declared.steps.Steps.{Steps}
+use Rattle.dz_quantiser.specs.Coefficient.{Coefficient}
+use Rattle.dz_quantiser.specs.declared.steps.StepSizes.{StepSizes}
 use Rattle.lift97_fixed.specs.Plane.{plane_transform}
-use Rattle.frame_coefficients.specs.Energy.{energy}
+use Rattle.frame_coefficients.specs.Distortion.{undecoded_distortion}
 use Rattle.frame_coefficients.specs.Places.{quantised}
 
 -- component 0, 1 or 2 of pixels with the samples xs, ys, zs, in raster order
@@ -17,13 +17,13 @@ component (suc (suc _)) xs ys zs = pointwise component2 xs ys zs
 
 -- the coefficients of component 0, 1 or 2 of a frame of this width and height, by so many levels of the
 -- wavelet transform and these steps, in raster order of the transformed plane
-unfoldable pub coefficients_of : ℕ → ℕ → ℕ → Steps → ℕ → List ℕ → List ℕ → List ℕ → List Coef
+unfoldable pub coefficients_of : ℕ → ℕ → ℕ → StepSizes → ℕ → List ℕ → List ℕ → List ℕ → List Coefficient
 coefficients_of levels width height steps c xs ys zs =
     quantised levels width height steps (plane_transform levels width height (component c xs ys zs))
 
--- the distortion of a frame of which nothing is known: the sum over the coefficients of all components
-unfoldable pub empty_of : ℕ → ℕ → ℕ → Steps → List ℕ → List ℕ → List ℕ → ℕ
-empty_of levels width height steps xs ys zs =
-    energy (coefficients_of levels width height steps 0 xs ys zs)
-    + energy (coefficients_of levels width height steps 1 xs ys zs)
-    + energy (coefficients_of levels width height steps 2 xs ys zs)
+-- the distortion of a frame of which nothing is decoded: the sum over the coefficients of all components
+unfoldable pub frame_undecoded_distortion : ℕ → ℕ → ℕ → StepSizes → List ℕ → List ℕ → List ℕ → ℕ
+frame_undecoded_distortion levels width height steps xs ys zs =
+    undecoded_distortion (coefficients_of levels width height steps 0 xs ys zs)
+    + undecoded_distortion (coefficients_of levels width height steps 1 xs ys zs)
+    + undecoded_distortion (coefficients_of levels width height steps 2 xs ys zs)

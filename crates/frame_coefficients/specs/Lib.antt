@@ -1,5 +1,5 @@
 pub mod BuiltIn
-pub mod Energy
+pub mod Distortion
 pub mod Frame
 pub mod Places
 pub mod Planes

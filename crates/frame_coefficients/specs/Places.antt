@@ -7,8 +7,8 @@ use Rattle.cine_nums.specs.declared.orient.Orient.TheVariants.{LL, HL, LH, HH}
 use Rattle.band_geometry.specs.Sizes.{res_side}
 use Rattle.dz_quantiser.specs.Bands.{step_of, range_of, planes_of}
 use Rattle.dz_quantiser.specs.Index.{index_of}
-use Rattle.dz_quantiser.specs.declared.coef.Coef.{Coef}
-use Rattle.dz_quantiser.specs.declared.steps.Steps.{Steps}
+use Rattle.dz_quantiser.specs.Coefficient.{Coefficient}
+use Rattle.dz_quantiser.specs.declared.steps.StepSizes.{StepSizes}
 
 -- The resolution of a column or a row i of the transformed plane, `side` giving the sides of the
 -- resolutions: that of the resolution below where it is still inside, and so on down.
@@ -27,21 +27,21 @@ orient_of c r =
     if nat_lt r c then HL else (if nat_lt c r then LH else (if nat_eq c 0 then LL else HH))
 
 -- the index of a cell of a band
-abbrev pub index_in : Steps → ℕ → Orient → ℤ → Coef
+abbrev pub index_in : StepSizes → ℕ → Orient → ℤ → Coefficient
 index_in steps r o v = let step = step_of steps r o in
     index_of v step (range_of o) (planes_of steps.guard step.exponent)
 
 -- the index of the cell in a column of resolution c and a row of resolution r
-abbrev pub index_at : Steps → ℕ → ℕ → ℤ → Coef
+abbrev pub index_at : StepSizes → ℕ → ℕ → ℤ → Coefficient
 index_at steps c r v = index_in steps (max c r) (orient_of c r) v
 
 -- the coefficient at place n of a transformed plane of so many levels, this width and this height, and
 -- those at all places
-unfoldable pub coef_at : ℕ → ℕ → ℕ → Steps → List ℤ → ℕ → Coef
+unfoldable pub coef_at : ℕ → ℕ → ℕ → StepSizes → List ℤ → ℕ → Coefficient
 coef_at levels width height steps cells n =
     index_at steps (res_at levels width (n % width)) (res_at levels height (n / width))
     (slice_index_or cells n (pos 0))
 
-unfoldable pub quantised : ℕ → ℕ → ℕ → Steps → List ℤ → List Coef
+unfoldable pub quantised : ℕ → ℕ → ℕ → StepSizes → List ℤ → List Coefficient
 quantised levels width height steps cells =
     map (coef_at levels width height steps cells) (range_with_len 0 (length cells))

@@ -4,27 +4,27 @@ ghost use Rattle.std.specs.List.{All};
 ghost use Rattle.cine_nums.specs.Fixed.{Within30};
 ghost use Rattle.dz_quantiser.specs.Bands.{AreUsable};
 ghost use Rattle.lift97_fixed.specs.Plane.{plane_transform};
-ghost use Rattle.frame_coefficients.specs.Frame.{component, coefficients_of, empty_of};
+ghost use Rattle.frame_coefficients.specs.Frame.{component, coefficients_of, frame_undecoded_distortion};
 ghost use Rattle.frame_coefficients.specs.Places.{quantised};
 ghost use Rattle.frame_coefficients.specs.Planes.{HasSize, IsSmall};
 
+use crate::distortion::undecoded_distortion;
 use crate::plane::CoefPlane;
 use crate::quantise::quantise_plane;
 use band_geometry::Geometry;
 use colour_ict::row;
-use dz_quantiser::Steps;
+use dz_quantiser::StepSizes;
 use lift97_fixed::{Plane, forward};
 use std::alloc::{AllocError, Global};
 
 /// The coefficients of the three components of a frame.
 #[derive(Debug, Drop)]
-pub struct FrameCoefs {
+pub struct FrameCoefficients {
     pub c0: CoefPlane,
     pub c1: CoefPlane,
     pub c2: CoefPlane,
-    /// The distortion of the frame while no bit plane of any coefficient is known, in units of half a
-    /// step squared.
-    pub empty: u128,
+    /// The distortion of the frame while nothing is decoded, in units of half a step squared.
+    pub undecoded_distortion: u128,
 }
 
 /// The component transform of all pixels, each component into a plane of its own.
@@ -61,11 +61,10 @@ fn mix(x: &[u16], y: &[u16], z: &[u16], plane0: &mut Plane, plane1: &mut Plane, 
 fn coefs_of(
     alloc: Global,
     geometry: &Geometry,
-    steps: &Steps,
+    steps: &StepSizes,
     mut plane: Plane,
     scratch: &mut [i32],
 ) -> Result<CoefPlane, AllocError>
-    requires guard { steps.now.guard ≤ 7 }
     requires usable { AreUsable geometry.now.levels steps.now }
     requires width { plane.width ≡ geometry.now.width }
     requires height { plane.height ≡ geometry.now.height }
@@ -92,16 +91,15 @@ fn coefs_of(
 /// component transform (ISO/IEC 15444-1, Annex G.3), the wavelet transform of the geometry's levels
 /// (Annex F), and the index of each place by the step of its band (Annex E).
 ///
-/// Every magnitude is below `2^20`, and `empty` below `2^68`. The only refusal is want of memory.
+/// Every magnitude is below `2^20`, and the distortion below `2^68`. The only refusal is out of memory.
 pub fn coefficients(
     alloc: Global,
     geometry: &Geometry,
-    steps: &Steps,
+    steps: &StepSizes,
     x: &[u16],
     y: &[u16],
     z: &[u16],
-) -> Result<FrameCoefs, AllocError>
-    requires guard { steps.now.guard ≤ 7 }
+) -> Result<FrameCoefficients, AllocError>
     requires usable { AreUsable geometry.now.levels steps.now }
     requires x_len { length x.now ≡ geometry.now.width * geometry.now.height }
     requires y_len { length y.now ≡ geometry.now.width * geometry.now.height }
@@ -115,9 +113,9 @@ pub fn coefficients(
         coefficients_of geometry.now.levels geometry.now.width geometry.now.height steps.now 1 x.now y.now z.now) }
     ensures c2 { IfOk result (λ q. q.c2.cells.items ≡
         coefficients_of geometry.now.levels geometry.now.width geometry.now.height steps.now 2 x.now y.now z.now) }
-    ensures empty { IfOk result (λ q. q.empty ≡
-        empty_of geometry.now.levels geometry.now.width geometry.now.height steps.now x.now y.now z.now) }
-    ensures small { IfOk result (λ q. q.empty < 2 ^ 68) }
+    ensures undecoded { IfOk result (λ q. q.undecoded_distortion ≡
+        frame_undecoded_distortion geometry.now.levels geometry.now.width geometry.now.height steps.now x.now y.now z.now) }
+    ensures small { IfOk result (λ q. q.undecoded_distortion < 2 ^ 68) }
     ensures size { IfOk result (λ q. HasSize geometry.now q.c0 × HasSize geometry.now q.c1 × HasSize geometry.now q.c2) }
     ensures magnitudes { IfOk result (λ q. IsSmall q.c0 × IsSmall q.c1 × IsSmall q.c2) }
 {
@@ -130,8 +128,15 @@ pub fn coefficients(
     let c0 = coefs_of(alloc, geometry, steps, plane0, scratch.as_mut_slice())?;
     let c1 = coefs_of(alloc, geometry, steps, plane1, scratch.as_mut_slice())?;
     let c2 = coefs_of(alloc, geometry, steps, plane2, scratch.as_mut_slice())?;
-    let empty = c0.energy() + c1.energy() + c2.energy();
-    Ok(FrameCoefs { c0, c1, c2, empty })
+    let undecoded_distortion = undecoded_distortion(&c0)
+        + undecoded_distortion(&c1)
+        + undecoded_distortion(&c2);
+    Ok(FrameCoefficients {
+        c0,
+        c1,
+        c2,
+        undecoded_distortion,
+    })
 }
 
 #[cfg(test)]
@@ -144,8 +149,8 @@ mod tests {
     fn signed(alloc: Global, plane: &CoefPlane) -> Result<Vec<i64>, AllocError> {
         let mut values = Vec::new(alloc);
         for coef in plane.cells.as_slice() {
-            let size = i64::from(coef.magnitude);
-            values.push(if coef.negative { -size } else { size })?;
+            let size = i64::from(coef.magnitude());
+            values.push(if coef.is_negative() { -size } else { size })?;
         }
         Ok(values)
     }
@@ -154,7 +159,7 @@ mod tests {
     #[test]
     fn frame_of_five_by_three_pixels(rt: HostRuntime) -> Result<(), Fail> {
         let geometry = Geometry::new(Profile::TwoK, 5, 5, 3);
-        let steps = Steps::built_in(Profile::TwoK);
+        let steps = StepSizes::built_in(Profile::TwoK);
         let x = [
             0, 4095, 2048, 100, 3000, 4095, 4095, 7, 2047, 2049, 1234, 0, 999, 4000, 1,
         ];
@@ -180,30 +185,24 @@ mod tests {
         assert_eq!(rt; signed(rt.alloc(), &frame.c0)?.as_slice(), c0.as_slice());
         assert_eq!(rt; signed(rt.alloc(), &frame.c1)?.as_slice(), c1.as_slice());
         assert_eq!(rt; signed(rt.alloc(), &frame.c2)?.as_slice(), c2.as_slice());
-        assert_eq!(rt; frame.empty, 1538582757);
+        assert_eq!(rt; frame.undecoded_distortion, 1538582757);
         Ok(())
     }
 
     #[test]
     fn frames_of_one_pixel(rt: HostRuntime) -> Result<(), Fail> {
         let geometry = Geometry::new(Profile::TwoK, 5, 1, 1);
-        let steps = Steps::built_in(Profile::TwoK);
+        let steps = StepSizes::built_in(Profile::TwoK);
         let grey = coefficients(rt.alloc(), &geometry, &steps, &[2049], &[2049], &[2049])?;
-        let first = Coef {
-            magnitude: 64,
-            negative: false,
-        };
+        let first = Coef::new(64, false);
         assert_eq!(rt; grey.c0.cells.as_slice(), [first].as_slice());
-        assert_eq!(rt; grey.empty, 16641);
+        assert_eq!(rt; grey.undecoded_distortion, 16641);
         let black = coefficients(rt.alloc(), &geometry, &steps, &[0], &[0], &[0])?;
-        let first = Coef {
-            magnitude: 131072,
-            negative: true,
-        };
+        let first = Coef::new(131072, true);
         assert_eq!(rt; black.c0.cells.as_slice(), [first].as_slice());
-        assert_eq!(rt; black.empty, 68720001025);
+        assert_eq!(rt; black.undecoded_distortion, 68720001025);
         let white = coefficients(rt.alloc(), &geometry, &steps, &[4095], &[4095], &[4095])?;
-        assert_eq!(rt; white.empty, 68652908289);
+        assert_eq!(rt; white.undecoded_distortion, 68652908289);
         Ok(())
     }
 }

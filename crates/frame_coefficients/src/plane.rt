@@ -1,9 +1,7 @@
 // A plane of coefficients.
-ghost use Rattle.std.specs.Prelude.{◌≡◌, ◌*◌, ◌<◌, ◌≤◌, ◌^◌, false, length, replicate, IfOk};
-ghost use Rattle.std.specs.List.{All};
-ghost use Rattle.frame_coefficients.specs.Energy.{energy};
+ghost use Rattle.std.specs.Prelude.{◌≡◌, ◌*◌, ◌≤◌, length, replicate, IfOk};
+ghost use Rattle.dz_quantiser.specs.Coefficient.{zero_coefficient};
 
-use crate::energy::energy;
 use dz_quantiser::Coef;
 use std::alloc::{AllocError, Global};
 
@@ -20,33 +18,19 @@ pub struct CoefPlane {
 }
 
 impl CoefPlane {
-    /// A plane whose coefficients are all 0. The only refusal is want of memory.
+    /// A plane whose coefficients are all 0. The only refusal is out of memory.
     pub fn new(alloc: Global, width: u32, height: u32) -> Result<CoefPlane, AllocError>
         requires wide { 1 ≤ width × width ≤ 4096 }
         requires high { 1 ≤ height × height ≤ 4096 }
         ensures width { IfOk result (λ plane. plane.width ≡ width) }
         ensures height { IfOk result (λ plane. plane.height ≡ height) }
-        ensures cells { IfOk result (λ plane. plane.cells.items ≡ replicate (height * width) (record { magnitude = 0; negative = false })) }
+        ensures cells { IfOk result (λ plane. plane.cells.items ≡ replicate (height * width) zero_coefficient) }
     {
-        let cells = vec![in alloc; Coef::default(); height as usize * width as usize]?;
+        let cells = vec![in alloc; Coef::zero(); height as usize * width as usize]?;
         Ok(CoefPlane {
             width,
             height,
             cells,
         })
-    }
-
-    /// The distortion of the plane while no bit plane of any coefficient is known, in units of half a
-    /// step squared.
-    pub fn energy(&self) -> u128
-        requires { All (λ c. c.magnitude < 2 ^ 20) self.now.cells.items }
-        ensures value { result ≡ energy self.now.cells.items }
-        ensures small { result ≤ 2 ^ 66 }
-    {
-        energy(
-            self.cells.as_slice(),
-            self.width as usize,
-            self.height as usize,
-        )
     }
 }

@@ -9,7 +9,7 @@ ghost use Rattle.frame_encoder.specs.Encoded.{empty_codestream_of, account_of};
 use crate::codestream::EmptyCodestream;
 use band_geometry::Geometry;
 use cine_nums::Profile;
-use dz_quantiser::Steps;
+use dz_quantiser::StepSizes;
 use frame_coefficients::coefficients;
 use pnm_frames::Frame;
 use std::alloc::{AllocError, Global};
@@ -38,7 +38,7 @@ fn empty_distortion(alloc: Global, frame: &Frame) -> Result<u128, AllocError>
     ensures { IfOk result (λ sum. sum ≡ empty_distortion (picture_of frame.now)) }
 {
     let geometry = Geometry::new(Profile::TwoK, 5, frame.width, frame.height);
-    let steps = Steps::built_in(Profile::TwoK);
+    let steps = StepSizes::built_in(Profile::TwoK);
     let made = coefficients(
         alloc,
         &geometry,
@@ -47,7 +47,7 @@ fn empty_distortion(alloc: Global, frame: &Frame) -> Result<u128, AllocError>
         frame.y.as_slice(),
         frame.z.as_slice(),
     )?;
-    Ok(made.empty)
+    Ok(made.undecoded_distortion)
 }
 
 /// What is told of a frame whose codestream this is.

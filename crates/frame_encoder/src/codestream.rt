@@ -10,7 +10,7 @@ use arrayvec::ArrayVec;
 use band_geometry::Geometry;
 use cine_nums::Profile;
 use cinema_markers::{MainHeader, main_bytes};
-use dz_quantiser::Steps;
+use dz_quantiser::StepSizes;
 use std::alloc::{AllocError, Global};
 use tile_parts::part_head;
 
@@ -35,7 +35,7 @@ fn main_header(width: u32, height: u32, part: u32) -> ArrayVec<u8, 192>
         height,
         levels: 5,
         flag: 1,
-        steps: Steps::built_in(Profile::TwoK),
+        steps: StepSizes::built_in(Profile::TwoK),
         parts,
         parts_at: ArrayVec::new(),
     })

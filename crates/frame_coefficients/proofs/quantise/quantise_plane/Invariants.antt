@@ -1,10 +1,10 @@
 use Rattle.std.proofs.Common.{◌≡◌, ◌*◌, ◌<◌, ℕ, get_or}
-use Rattle.dz_quantiser.specs.declared.coef.Coef.{Coef}
+use Rattle.dz_quantiser.specs.Coefficient.{Coefficient}
 use Rattle.frame_coefficients.specs.Places.{coef_at}
 use Rattle.frame_coefficients.proofs.quantise.quantise_plane.Given as goal
 
 abbrev pub invariant-loop-y : goal.invariant-loop-y
 invariant-loop-y l = record {
-  done : (k : ℕ) (d : Coef) → k < l.y * l.geometry.width →
+  done : (k : ℕ) (d : Coefficient) → k < l.y * l.geometry.width →
       get_or l.coefs k d ≡ coef_at l.geometry.levels l.geometry.width l.geometry.height l.steps l.cells k;
 }

@@ -1,4 +1,4 @@
--- The squared error of an index of which no bit plane is known: 0 is taken for it.
+-- The squared error of an index of which no bit-plane is known: 0 is taken for it.
 use Rattle.std.proofs.Common.{◌≡◌, ℕ, zero, suc, ◌+◌, ◌*◌, ◌/◌, ◌^◌, ◌<◌, arith, ap, ◌∙◌, refl}
 use Rattle.std.proofs.Math.Nat.{div-eq_of_lt}
 use Rattle.cine_nums.specs.Bits.{bit_len}
@@ -11,11 +11,11 @@ error-unknown m u lt =
     let whole : distance (middle m 0) 0 ≡ middle m 0 = omega arith in
     ap (λ n. square (distance (middle m 0) (middle n u))) none ∙ ap square whole
 
-pub energy-is : (m : ℕ) → squared_error m (bit_len m) ≡ square (middle m 0)
-energy-is m = error-unknown m (bit_len m) (bit_len-above m)
+pub error-unknown_all : (m : ℕ) → squared_error m (bit_len m) ≡ square (middle m 0)
+error-unknown_all m = error-unknown m (bit_len m) (bit_len-above m)
 
-pub energy-of_more : (m : ℕ) → (m ≡ 0 → ⊥) → squared_error m (bit_len m) ≡ (2 * m + 1) * (2 * m + 1)
-energy-of_more zero some = absurd (some refl)
-energy-of_more (suc n) some =
+pub error-undecoded : (m : ℕ) → (m ≡ 0 → ⊥) → squared_error m (bit_len m) ≡ (2 * m + 1) * (2 * m + 1)
+error-undecoded zero some = absurd (some refl)
+error-undecoded (suc n) some =
     let size : middle (suc n) 0 ≡ 2 * suc n + 1 = omega arith in
-    energy-is (suc n) ∙ ap square size
+    error-unknown_all (suc n) ∙ ap square size

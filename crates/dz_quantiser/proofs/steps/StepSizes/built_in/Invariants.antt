@@ -1,7 +1,7 @@
 use Rattle.std.proofs.Common.{◌≡◌, ◌+◌, ◌*◌, ◌-◌, ◌++◌, length}
 use Rattle.cine_nums.specs.Profile.{levels_of}
 use Rattle.dz_quantiser.specs.Bands.{built_in_above, built_in_bands}
-use Rattle.dz_quantiser.proofs.steps.Steps.built_in.Given as goal
+use Rattle.dz_quantiser.proofs.steps.StepSizes.built_in.Given as goal
 
 abbrev pub invariant-loop-done : goal.invariant-loop-done
 invariant-loop-done l = record {

@@ -1,10 +1,10 @@
 use Rattle.std.proofs.Common.{◌≡◌, ◌+◌, ◌-◌, ◌*◌, ◌^◌, ◌≤◌, take}
 use Rattle.std.specs.List.{sum_by}
-use Rattle.frame_coefficients.specs.Energy.{energy_of}
-use Rattle.frame_coefficients.proofs.energy.energy_between.Given as goal
+use Rattle.frame_coefficients.specs.Distortion.{undecoded_error}
+use Rattle.frame_coefficients.proofs.distortion.sum_between.Given as goal
 
 abbrev pub invariant-loop-i : goal.invariant-loop-i
 invariant-loop-i l = record {
-  so_far : sum_by energy_of (take l.from l.coefs) + l.sum ≡ sum_by energy_of (take l.i l.coefs);
+  so_far : sum_by undecoded_error (take l.from l.coefs) + l.sum ≡ sum_by undecoded_error (take l.i l.coefs);
   small : l.sum ≤ 2 ^ 42 * (l.i - l.from);
 }

@@ -1,6 +1,6 @@
 use Rattle.std.proofs.Common.{rules, ◌+◌, ◌-◌, arith, ◌∙◌}
 use Rattle.dz_quantiser.proofs.BuiltIn.{three_more, built_in_usable}
-use Rattle.dz_quantiser.proofs.steps.Steps.built_in.Goals as goal
+use Rattle.dz_quantiser.proofs.steps.StepSizes.built_in.Goals as goal
 
 pub loop-done-preserved : goal.loop-done-preserved
 loop-done-preserved c = record {
