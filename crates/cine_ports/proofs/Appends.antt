@@ -5,7 +5,7 @@ use Rattle.std.proofs.Math.Seq.{take-add, take-append-add}
 use borrow.Rule.Slice.PartMut.{put_mid, post_of}
 use Rattle.cine_ports.specs.Source.{File}
 use Rattle.cine_ports.specs.Outputs.{Kept, file_with, with_more}
-use Rattle.cine_ports.specs.Moves.{said_with}
+use Rattle.cine_ports.specs.WholePieces.{said_with}
 
 file_with-twice : (a b : List ℕ) (file : Option File) → file_with b (file_with a file) ≡ file_with (a ++ b) file
 file_with-twice a b None = refl

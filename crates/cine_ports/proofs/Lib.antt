@@ -1,3 +1,3 @@
 mod Appends
 mod NameOrder
-mod Shelves
+mod Sources

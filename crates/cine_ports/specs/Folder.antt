@@ -1,15 +1,15 @@
--- What a folder tells: names, and no bytes.
+-- What is known of a folder: names, and no bytes.
 use Rattle.std.specs.Prelude.{ℕ, ◌≡◌, ◌<◌, Bool, List, [], ◌++◌, None, length}
 use Rattle.cine_ports.specs.Source.{Source, Reading}
 
--- files that are not told, with the names that were listed
-abbrev pub untold_source : Bool → List (List ℕ) → Source
-untold_source is_listed names = record { files = None; is_listed = is_listed; names = names }
+-- files that aren't known, with the names that were listed
+abbrev pub unknown_source : Bool → List (List ℕ) → Source
+unknown_source is_listed names = record { files = None; is_listed = is_listed; names = names }
 
--- the reading of files that are not told
-abbrev pub untold_reading : ℕ → Bool → Reading
-untold_reading asked is_begun = record { asked = asked; is_begun = is_begun; left = [] }
+-- the reading of files that aren't known
+abbrev pub unknown_reading : ℕ → Bool → Reading
+unknown_reading asked is_begun = record { asked = asked; is_begun = is_begun; left = [] }
 
--- the file name is a name that isn't empty, and behind it the suffix
+-- the file name is a name that isn't empty, followed by the suffix
 abbrev pub IsStem : List ℕ → List ℕ → List ℕ → Type 0
 IsStem file_name suffix name = (file_name ≡ name ++ suffix) × (0 < length name)

@@ -1,7 +1,7 @@
-pub mod Cause
+pub mod Failure
 pub mod Folder
 pub mod Memory
-pub mod Moves
+pub mod WholePieces
 pub mod Names
 pub mod Outputs
 pub mod Plan

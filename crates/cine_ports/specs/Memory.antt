@@ -9,9 +9,9 @@ abbrev pub names_listed : Bool → List File → List (List ℕ)
 names_listed true files = map (λ file. file.name) files
 names_listed false files = []
 
--- files that are told, listed or not
-abbrev pub told_source : List File → Bool → Source
-told_source files is_listed =
+-- files that are known, listed or not
+abbrev pub known_source : List File → Bool → Source
+known_source files is_listed =
     record { files = Some files; is_listed = is_listed; names = names_listed is_listed files }
 
 -- the bytes of a file, by its place
@@ -23,9 +23,9 @@ abbrev pub bytes_left : Bool → List File → ℕ → ℕ → List ℕ
 bytes_left true files i at = drop at (bytes_at files i)
 bytes_left false files i at = []
 
--- the reading of told files
-abbrev pub told_reading : List File → ℕ → Bool → ℕ → Reading
-told_reading files asked is_begun at =
+-- the reading of known files
+abbrev pub known_reading : List File → ℕ → Bool → ℕ → Reading
+known_reading files asked is_begun at =
     record { asked = asked; is_begun = is_begun; left = bytes_left is_begun files asked at }
 
 -- no frame was asked for
@@ -39,23 +39,23 @@ pub record Steady : Type 0 where
   -- before the listing there are no names, and no frame was asked for
   pub unlisted : IsUnlisted source reading
 
--- frames in memory, how many calls of them failed, and which are to fail
+-- frames in memory, whether a call of them has failed, and which are to fail
 pub record FailingFrames : Type 0 where
   pub source : Source
   pub reading : Reading
   -- before the listing there are no names, and no frame was asked for
   pub unlisted : IsUnlisted source reading
-  pub faults : ℕ
+  pub has_failed : Bool
   pub plan : Plan
 
 -- outputs in memory, likewise
 pub record FailingOutputs : Type 0 where
   pub kept : Kept
-  pub faults : ℕ
+  pub has_failed : Bool
   pub plan : Plan
 
 -- a report in memory, likewise
 pub record FailingReport : Type 0 where
   pub said : List ℕ
-  pub faults : ℕ
+  pub has_failed : Bool
   pub plan : Plan

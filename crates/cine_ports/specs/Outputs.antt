@@ -15,16 +15,16 @@ kept_nothing = record { finished = []; unfinished = None }
 abbrev pub with_begun : List ℕ → Kept → Kept
 with_begun name kept = record { finished = kept.finished; unfinished = Some (record { name = name; bytes = [] }) }
 
--- a file with these bytes behind its own
+-- a file with these bytes after its own
 abbrev pub file_with : List ℕ → Option File → Option File
 file_with more None = None
 file_with more (Some file) = Some (record { name = file.name; bytes = file.bytes ++ more })
 
--- with these bytes behind those of the unfinished file
+-- with these bytes after those of the unfinished file
 abbrev pub with_more : List ℕ → Kept → Kept
 with_more more kept = record { finished = kept.finished; unfinished = file_with more kept.unfinished }
 
--- the finished files, and behind them the one that was unfinished
+-- the finished files, followed by the one that was unfinished
 abbrev pub finished_with : List File → Option File → List File
 finished_with files None = files
 finished_with files (Some file) = files ++ file ∷ []

@@ -8,7 +8,7 @@ pub record File : Type 0 where
 
 -- what lies in a source
 pub record Source : Type 0 where
-  -- the files in order, where the source tells them
+  -- the files in order, where they are known
   pub files : Option (List File)
   -- whether they have been listed
   pub is_listed : Bool
@@ -21,7 +21,7 @@ pub record Reading : Type 0 where
   pub asked : ℕ
   -- whether that frame is begun
   pub is_begun : Bool
-  -- the bytes of the begun frame that are still to be read, where the source tells its files
+  -- the bytes of the begun frame that are still to be read, where the files are known
   pub left : List ℕ
 
 -- a source that isn't listed has no names, and no frame of it was asked for

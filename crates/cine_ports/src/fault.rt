@@ -1,19 +1,19 @@
-// The ways in which a call of the outside is refused.
+// The errors of a call of the outside.
 ghost use Rattle.std.specs.Prelude.{◌≡◌};
 ghost use Rattle.cine_ports.specs.declared.fault.PortFault.TheVariants as port_fault;
 
 use std::alloc::{AllocError, AllocFailed};
 
-/// The call failed, and its object counted that.
+/// The call failed, and its object knows that.
 #[derive(Clone, Copy, Debug, PartialEq, Eq)]
 pub struct Failed;
 
-/// Why a call that takes memory was refused.
+/// Why a call that takes memory returned an error.
 #[derive(Clone, Copy, Debug, PartialEq, Eq)]
 pub enum PortFault {
-    /// The call failed, and its object counted that.
+    /// The call failed, and its object knows that.
     Failed,
-    /// Memory was wanting. No count tells of it.
+    /// Out of memory. The object hasn't failed.
     Memory,
 }
 

@@ -1,59 +1,59 @@
 // Calls that are to fail, and pieces that they move.
 use crate::Failed;
-use crate::fault_count::FaultCount;
 use std::marker::Model;
 
-/// Which calls of an object in memory fail, by their numbers from 0, how many there were, and how
-/// many bytes one call moves at most.
+/// Which calls of an object in memory fail, by their numbers from 0, how many there were, how many
+/// bytes one call moves at most, and whether a call has failed.
 #[derive(Debug, Drop)]
 pub(crate) struct FaultPlan {
     failing: Vec<u32>,
     calls: u64,
     piece: u32,
-    faults: FaultCount,
+    has_failed: bool,
 }
 
 impl Model for FaultPlan {
     ghost use Rattle.std.specs.Prelude.{◌≤◌};
-    ghost use Rattle.cine_ports.specs.Plan.{CountedPlan};
+    ghost use Rattle.cine_ports.specs.Plan.{RunningPlan};
 
-    ghost Value = { CountedPlan };
+    ghost Value = { RunningPlan };
 
     ghost view = { λ p. record {
       plan = record { failing = p.failing.items; calls = p.calls; piece = p.piece };
-      faults = p.faults.count;
+      has_failed = p.has_failed;
     } };
 
     ghost invariant = { λ p. 1 ≤ p.piece };
 }
 
 impl FaultPlan {
-    ghost use Rattle.std.specs.Prelude.{◌≡◌, ◌<◌, ◌≤◌, min, IsErr};
-    ghost use Rattle.cine_ports.specs.Cause.{HasFaultCause};
+    ghost use Rattle.std.specs.Prelude.{◌≡◌, ◌<◌, ◌≤◌, false, is_err, min, IsErr};
     ghost use Rattle.cine_ports.specs.Plan.{first_plan, IsNumbered};
 
     pub(crate) fn new(failing: Vec<u32>, piece: u32) -> FaultPlan
         requires { 1 ≤ piece }
         ensures plan { result.plan ≡ first_plan failing.items piece }
-        ensures faults { result.faults ≡ 0 }
+        ensures working { result.has_failed ≡ false }
     {
         FaultPlan {
             failing,
             calls: 0,
             piece,
-            faults: FaultCount::new(),
+            has_failed: false,
         }
     }
 
-    /// Numbers a call, and answers whether it fails.
+    /// Numbers a call, and returns whether it fails.
     pub(crate) fn next_call(&mut self) -> Result<(), Failed>
+        requires { self.old.has_failed ≡ false }
         ensures numbered { IsNumbered self.old.plan self.new.plan (IsErr result) }
-        ensures cause { HasFaultCause self.old.faults self.new.faults result }
+        ensures failed { self.new.has_failed ≡ is_err result }
     {
         let call = self.calls;
         self.calls = call.saturating_add(1);
         if self.failing.iter().any(|n| u64::from(*n) == call) {
-            return Err(self.faults.fail());
+            self.has_failed = true;
+            return Err(Failed);
         }
         Ok(())
     }

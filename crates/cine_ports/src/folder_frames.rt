@@ -2,11 +2,11 @@
 ghost use Rattle.std.specs.Prelude.{◌<◌, List, ℕ, All, IsSorted, is_some, length, map, IfOk, IfSome, IfNone};
 ghost use Rattle.std.specs.Fs.{dir_entry_name};
 ghost use Rattle.std.specs.String.{string_bytes, string_cmp};
-ghost use Rattle.cine_ports.specs.Folder.{IsStem, untold_source, untold_reading};
+ghost use Rattle.cine_ports.specs.Folder.{IsStem, unknown_source, unknown_reading};
 ghost use Rattle.cine_ports.specs.Names.{IsNameList};
 ghost use Rattle.cine_ports.specs.Source.{IsUnlisted};
 
-use crate::fault_count::FaultCount;
+use crate::failure_mark::FailureMark;
 use crate::names::is_name_list;
 use crate::{Failed, Frames, PortFault};
 use std::fs::DirEntry;
@@ -29,10 +29,10 @@ pub struct FolderFrames<R: Files + AllocGlobal + Clone + Drop> {
     is_listed: bool,
     asked: u32,
     file: Option<R::File>,
-    pub(crate) faults: FaultCount,
+    pub(crate) mark: FailureMark,
     ghost in_order: { IsNameList (map string_bytes names.items) },
-    ghost unlisted: { IsUnlisted (untold_source is_listed (map string_bytes names.items))
-        (untold_reading asked (is_some file)) },
+    ghost unlisted: { IsUnlisted (unknown_source is_listed (map string_bytes names.items))
+        (unknown_reading asked (is_some file)) },
 }
 
 impl<R: Files + AllocGlobal + Clone + Drop> FolderFrames<R> {
@@ -46,7 +46,7 @@ impl<R: Files + AllocGlobal + Clone + Drop> FolderFrames<R> {
         ensures listed { result.is_listed ≡ false }
         ensures asked { result.asked ≡ 0 }
         ensures closed { is_some result.file ≡ false }
-        ensures faults { result.faults.count ≡ 0 }
+        ensures working { result.mark.has_failed ≡ false }
     {
         let names = Vec::new(rt.alloc());
         FolderFrames {
@@ -57,7 +57,7 @@ impl<R: Files + AllocGlobal + Clone + Drop> FolderFrames<R> {
             is_listed: false,
             asked: 0,
             file: None,
-            faults: FaultCount::new(),
+            mark: FailureMark::new(),
         }
     }
 }
@@ -124,11 +124,11 @@ fn open_frame<R: Files + AllocGlobal>(
 }
 
 impl<R: Files + AllocGlobal + Clone + Drop> Frames for FolderFrames<R> {
-    ghost source = { λ f. untold_source f.is_listed (map string_bytes f.names.items) };
+    ghost source = { λ f. unknown_source f.is_listed (map string_bytes f.names.items) };
 
-    ghost reading = { λ f. untold_reading f.asked (is_some f.file) };
+    ghost reading = { λ f. unknown_reading f.asked (is_some f.file) };
 
-    ghost faults = { λ f. f.faults.count };
+    ghost has_failed = { λ f. f.mark.has_failed };
 
     ghost unlisted = { λ f. f.unlisted };
 
@@ -139,13 +139,13 @@ impl<R: Files + AllocGlobal + Clone + Drop> Frames for FolderFrames<R> {
         match frame_names(&self.rt, self.folder.as_str(), self.suffix.as_str()) {
             Ok(names) => {
                 if !is_name_list(names.as_slice()) {
-                    return Err(PortFault::from(self.faults.fail()));
+                    return Err(PortFault::from(self.mark.fail()));
                 }
                 self.names = names;
                 self.is_listed = true;
                 Ok(())
             }
-            Err(error) => Err(self.faults.refuse(error)),
+            Err(error) => Err(self.mark.refuse(error)),
         }
     }
 
@@ -166,7 +166,7 @@ impl<R: Files + AllocGlobal + Clone + Drop> Frames for FolderFrames<R> {
                 self.file = Some(file);
                 Ok(())
             }
-            Err(error) => Err(self.faults.refuse(error)),
+            Err(error) => Err(self.mark.refuse(error)),
         }
     }
 
@@ -175,7 +175,7 @@ impl<R: Files + AllocGlobal + Clone + Drop> Frames for FolderFrames<R> {
         match &mut self.file {
             Some(file) => match file.read(buf) {
                 Ok(n) => Ok(n),
-                Err(_) => Err(self.faults.fail()),
+                Err(_) => Err(self.mark.fail()),
             },
             None => unreachable!(),
         }

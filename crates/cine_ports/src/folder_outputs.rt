@@ -1,5 +1,5 @@
 // Outputs that are files of a folder.
-use crate::fault_count::FaultCount;
+use crate::failure_mark::FailureMark;
 use crate::{Outputs, PortFault};
 use std::fs::OpenFile;
 use std::io::Write;
@@ -54,7 +54,7 @@ pub struct FolderOutputs<R: Files + AllocGlobal + Clone + Drop> {
     folder: String,
     is_made: bool,
     part: Option<Part<R::File>>,
-    pub(crate) faults: FaultCount,
+    pub(crate) mark: FailureMark,
 }
 
 impl<R: Files + AllocGlobal + Clone + Drop> FolderOutputs<R> {
@@ -65,14 +65,14 @@ impl<R: Files + AllocGlobal + Clone + Drop> FolderOutputs<R> {
         ensures folder { result.folder ≡ folder }
         ensures made { result.is_made ≡ false }
         ensures closed { is_some result.part ≡ false }
-        ensures faults { result.faults.count ≡ 0 }
+        ensures working { result.mark.has_failed ≡ false }
     {
         FolderOutputs {
             rt,
             folder,
             is_made: false,
             part: None,
-            faults: FaultCount::new(),
+            mark: FailureMark::new(),
         }
     }
 }
@@ -106,9 +106,9 @@ impl<R: Files + AllocGlobal + Clone + Drop> Outputs for FolderOutputs<R> {
 
     ghost is_open = { λ o. is_some o.part };
 
-    ghost faults = { λ o. o.faults.count };
+    ghost has_failed = { λ o. o.mark.has_failed };
 
-    ghost open_told = { λ o. tt };
+    ghost open_known = { λ o. tt };
 
     fn begin(&mut self, name: &str) -> Result<(), PortFault> {
         match begin_part(&self.rt, self.folder.as_str(), self.is_made, name) {
@@ -117,7 +117,7 @@ impl<R: Files + AllocGlobal + Clone + Drop> Outputs for FolderOutputs<R> {
                 self.part = Some(part);
                 Ok(())
             }
-            Err(error) => Err(self.faults.refuse(error)),
+            Err(error) => Err(self.mark.refuse(error)),
         }
     }
 
@@ -125,7 +125,7 @@ impl<R: Files + AllocGlobal + Clone + Drop> Outputs for FolderOutputs<R> {
         match &mut self.part {
             Some(part) => match part.write(piece) {
                 Ok(n) => Ok(n),
-                Err(error) => Err(self.faults.refuse(error)),
+                Err(error) => Err(self.mark.refuse(error)),
             },
             None => unreachable!(),
         }
@@ -141,7 +141,7 @@ impl<R: Files + AllocGlobal + Clone + Drop> Outputs for FolderOutputs<R> {
                 self.part = None;
                 Ok(())
             }
-            Err(error) => Err(self.faults.refuse(error)),
+            Err(error) => Err(self.mark.refuse(error)),
         }
     }
 }

@@ -1,10 +1,11 @@
 //! The outside of the encoder as three traits: where frames come from (`Frames`), where codestreams
 //! go (`Outputs`), and where the lines of a run go (`Report`). Each stands in memory, where its bytes
-//! are told and chosen calls fail, and as a folder or standard output.
+//! are known and chosen calls fail, and as a folder or standard output.
 //!
-//! A call answers Failed only where its object's count of faults rose in it, and any other answer
-//! leaves the count. So a run that ends at its first fault knows whose fault it was. What was moved
-//! before a fault is the front of what was asked for, byte for byte.
+//! An object knows whether a call of it has failed (`has_failed`): a call sets that exactly if it
+//! returns Failed, and each call asks that it isn't set. So no call is made after one that failed, and
+//! a failure can't be passed over by trying again. What was moved before it is a prefix of what was
+//! asked for, byte for byte.
 //!
 //! ```
 //! frames.list()?;
@@ -16,8 +17,8 @@
 //! ```
 #![tactic(auto)]
 
+mod failure_mark;
 mod fault;
-mod fault_count;
 mod fault_plan;
 mod folder_frames;
 mod folder_outputs;
@@ -26,14 +27,14 @@ mod memory_frame;
 mod memory_frames;
 mod memory_outputs;
 mod memory_report;
-mod moves;
+mod memory_source;
 mod names;
 mod null;
 mod outputs;
 mod report;
-mod shelf;
 mod stdout_report;
 mod steady_frames;
+mod whole_pieces;
 
 pub use fault::{Failed, PortFault};
 pub use folder_frames::FolderFrames;
@@ -43,13 +44,13 @@ pub use memory_frame::MemoryFrame;
 pub use memory_frames::MemoryFrames;
 pub use memory_outputs::MemoryOutputs;
 pub use memory_report::MemoryReport;
-pub use moves::{read_fully, say, write_all};
 pub use names::is_frame_list;
 pub use null::{NullOutputs, NullReport};
 pub use outputs::Outputs;
 pub use report::Report;
 pub use stdout_report::StdoutReport;
 pub use steady_frames::SteadyFrames;
+pub use whole_pieces::{read_fully, say, write_all};
 
 #[cfg(test)]
 mod tests;

@@ -4,10 +4,10 @@ use crate::{MemoryFrame, Outputs, PortFault};
 use std::alloc::Global;
 use std::marker::Model;
 
-/// Outputs in memory that are told, of which some calls fail, and which take pieces.
+/// Outputs in memory, of which some calls fail, and which take pieces.
 ///
 /// The calls of `begin`, `write` and `finish` are numbered together from 0. Exactly those whose
-/// number is among the failing ones answer Failed. A write that isn't refused takes a whole piece,
+/// number is among the failing ones return Failed. A write without an error takes a whole piece,
 /// or all that it is given where that is shorter. `begin` makes the room that `finish` needs, so that
 /// `finish` takes no memory.
 #[derive(Debug, Drop)]
@@ -26,7 +26,7 @@ impl Model for MemoryOutputs {
 
     ghost view = { λ o. record {
       kept = record { finished = o.finished.items; unfinished = o.unfinished };
-      faults = o.plan.faults;
+      has_failed = o.plan.has_failed;
       plan = o.plan.plan;
     } };
 
@@ -34,7 +34,7 @@ impl Model for MemoryOutputs {
 }
 
 impl MemoryOutputs {
-    ghost use Rattle.std.specs.Prelude.{◌≡◌, ◌≤◌, option_copied};
+    ghost use Rattle.std.specs.Prelude.{◌≡◌, ◌≤◌, false, option_copied};
     ghost use Rattle.cine_ports.specs.Outputs.{kept_nothing};
     ghost use Rattle.cine_ports.specs.Plan.{first_plan};
 
@@ -44,7 +44,7 @@ impl MemoryOutputs {
     pub fn new(alloc: Global, failing: Vec<u32>, piece: u32) -> MemoryOutputs
         requires { 1 ≤ piece }
         ensures kept { result.kept ≡ kept_nothing }
-        ensures faults { result.faults ≡ 0 }
+        ensures working { result.has_failed ≡ false }
         ensures plan { result.plan ≡ first_plan failing.items piece }
     {
         MemoryOutputs {
@@ -78,7 +78,7 @@ impl Outputs for MemoryOutputs {
 
     ghost is_open = { λ o. is_some o.kept.unfinished };
 
-    ghost faults = { λ o. o.faults };
+    ghost has_failed = { λ o. o.has_failed };
 
     ghost begin_gives = { λ old new result. IsNumbered old.plan new.plan (IsFailed result) };
 
@@ -88,7 +88,7 @@ impl Outputs for MemoryOutputs {
     ghost finish_gives = { λ old new result.
         IsNumbered old.plan new.plan (IsFailed result) × HasMemory result };
 
-    ghost open_told = { λ o. refl };
+    ghost open_known = { λ o. refl };
 
     fn begin(&mut self, name: &str) -> Result<(), PortFault> {
         self.plan.next_call()?;

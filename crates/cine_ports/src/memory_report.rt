@@ -4,10 +4,10 @@ use crate::{PortFault, Report};
 use std::alloc::Global;
 use std::marker::Model;
 
-/// A report in memory that is told, of which some calls fail, and which takes pieces.
+/// A report in memory, of which some calls fail, and which takes pieces.
 ///
 /// The calls of `write` are numbered from 0. Exactly those whose number is among the failing ones
-/// answer Failed. A write that isn't refused takes a whole piece, or all that it is given where that
+/// return Failed. A write without an error takes a whole piece, or all that it is given where that
 /// is shorter.
 #[derive(Debug, Drop)]
 pub struct MemoryReport {
@@ -22,13 +22,13 @@ impl Model for MemoryReport {
 
     ghost view = { λ r. record {
       said = r.bytes.items;
-      faults = r.plan.faults;
+      has_failed = r.plan.has_failed;
       plan = r.plan.plan;
     } };
 }
 
 impl MemoryReport {
-    ghost use Rattle.std.specs.Prelude.{[], ◌≡◌, ◌≤◌};
+    ghost use Rattle.std.specs.Prelude.{[], ◌≡◌, ◌≤◌, false};
     ghost use Rattle.cine_ports.specs.Plan.{first_plan};
 
     /// A report to which nothing was written. This takes no memory.
@@ -37,7 +37,7 @@ impl MemoryReport {
     pub fn new(alloc: Global, failing: Vec<u32>, piece: u32) -> MemoryReport
         requires { 1 ≤ piece }
         ensures said { result.said ≡ [] }
-        ensures faults { result.faults ≡ 0 }
+        ensures working { result.has_failed ≡ false }
         ensures plan { result.plan ≡ first_plan failing.items piece }
     {
         MemoryReport {
@@ -60,7 +60,7 @@ impl Report for MemoryReport {
 
     ghost said = { λ r. Some r.said };
 
-    ghost faults = { λ r. r.faults };
+    ghost has_failed = { λ r. r.has_failed };
 
     ghost write_gives = { λ old new piece result. IsNumbered old.plan new.plan (IsFailed result)
         × IfOk result (λ n. n ≡ min (length piece) old.plan.piece) };

@@ -1,7 +1,7 @@
 // Outputs and a report that keep nothing.
 use crate::{Outputs, PortFault, Report};
 
-/// Outputs that keep nothing, tell nothing, take every piece whole and never refuse.
+/// Outputs that keep nothing, take every piece whole and never return an error.
 #[derive(Debug, Drop)]
 pub struct NullOutputs {
     is_open: bool,
@@ -19,13 +19,13 @@ impl NullOutputs {
 }
 
 impl Outputs for NullOutputs {
-    ghost use Rattle.std.specs.Prelude.{◌≡◌, None, length, Ok, IsOk};
+    ghost use Rattle.std.specs.Prelude.{◌≡◌, false, None, length, Ok, IsOk};
 
     ghost kept = { λ o. None };
 
     ghost is_open = { λ o. o.is_open };
 
-    ghost faults = { λ o. 0 };
+    ghost has_failed = { λ o. false };
 
     ghost begin_gives = { λ old new result. IsOk result };
 
@@ -33,7 +33,7 @@ impl Outputs for NullOutputs {
 
     ghost finish_gives = { λ old new result. IsOk result };
 
-    ghost open_told = { λ o. tt };
+    ghost open_known = { λ o. tt };
 
     fn begin(&mut self, _name: &str) -> Result<(), PortFault> {
         self.is_open = true;
@@ -50,16 +50,16 @@ impl Outputs for NullOutputs {
     }
 }
 
-/// A report that keeps nothing, tells nothing, takes every piece whole and never refuses.
+/// A report that keeps nothing, takes every piece whole and never returns an error.
 #[derive(Debug, Drop)]
 pub struct NullReport;
 
 impl Report for NullReport {
-    ghost use Rattle.std.specs.Prelude.{◌≡◌, None, length, Ok};
+    ghost use Rattle.std.specs.Prelude.{◌≡◌, false, None, length, Ok};
 
     ghost said = { λ r. None };
 
-    ghost faults = { λ r. 0 };
+    ghost has_failed = { λ r. false };
 
     ghost write_gives = { λ old new piece result. result ≡ Ok (length piece) };
 

@@ -1,5 +1,5 @@
 // The report that is standard output.
-use crate::fault_count::FaultCount;
+use crate::failure_mark::FailureMark;
 use crate::{PortFault, Report};
 use std::io::Print;
 
@@ -7,19 +7,19 @@ use std::io::Print;
 #[derive(Drop)]
 pub struct StdoutReport<R: Print + Drop> {
     rt: R,
-    pub(crate) faults: FaultCount,
+    pub(crate) mark: FailureMark,
 }
 
 impl<R: Print + Drop> StdoutReport<R> {
-    ghost use Rattle.std.specs.Prelude.{◌≡◌};
+    ghost use Rattle.std.specs.Prelude.{◌≡◌, false};
 
     /// The report to which nothing was written yet.
     pub fn new(rt: R) -> StdoutReport<R>
-        ensures { result.faults.count ≡ 0 }
+        ensures { result.mark.has_failed ≡ false }
     {
         StdoutReport {
             rt,
-            faults: FaultCount::new(),
+            mark: FailureMark::new(),
         }
     }
 }
@@ -29,14 +29,14 @@ impl<R: Print + Drop> Report for StdoutReport<R> {
 
     ghost said = { λ r. None };
 
-    ghost faults = { λ r. r.faults.count };
+    ghost has_failed = { λ r. r.mark.has_failed };
 
     fn write(&mut self, piece: &[u8]) -> Result<usize, PortFault> {
         match self.rt.write_some(piece) {
             // A sink that takes nothing of a piece that isn't empty fails.
-            Ok(0) if !piece.is_empty() => Err(PortFault::from(self.faults.fail())),
+            Ok(0) if !piece.is_empty() => Err(PortFault::from(self.mark.fail())),
             Ok(n) => Ok(n),
-            Err(error) => Err(self.faults.refuse(error)),
+            Err(error) => Err(self.mark.refuse(error)),
         }
     }
 }

@@ -1,4 +1,4 @@
-ghost use Rattle.std.specs.Prelude.{false, ◌≡◌, is_some, IfOk};
+ghost use Rattle.std.specs.Prelude.{false, ◌≡◌, is_some, IfOk, OnOk};
 
 use super::*;
 use std::alloc::{AllocError, Global};
@@ -25,8 +25,11 @@ fn files(
     Ok(files)
 }
 
-/// The front of a frame, which is all of one that is shorter than 8 bytes.
-fn front<F: Frames>(alloc: Global, frames: &mut F, i: u32) -> Result<Vec<u8>, Fail> {
+/// The first bytes of a frame, which are all of one that is shorter than 8 bytes.
+fn first_bytes<F: Frames>(alloc: Global, frames: &mut F, i: u32) -> Result<Vec<u8>, Fail>
+    requires { F.has_failed frames.old ≡ false }
+    ensures { OnOk result (F.has_failed frames.new ≡ false) }
+{
     if i >= frames.count() {
         return Err(Fail::new("no such frame"));
     }
@@ -43,7 +46,7 @@ fn steady_frames_are_read(rt: HostRuntime) -> Result<(), Fail> {
     assert!(rt; is_frame_list(files.as_slice()));
     let mut frames = SteadyFrames::new(files);
     frames.list()?;
-    let read = front(alloc, &mut frames, 0)?;
+    let read = first_bytes(alloc, &mut frames, 0)?;
     assert!(rt; read.as_slice() == b"12345".as_slice());
     Ok(())
 }
@@ -52,41 +55,61 @@ fn steady_frames_are_read(rt: HostRuntime) -> Result<(), Fail> {
 fn standard_output_is_written(rt: HostRuntime) -> Result<(), Fail> {
     let mut report = StdoutReport::new(rt.clone()?);
     say(&mut report, b"one\n")?;
-    assert!(rt; report.faults.count == 0);
+    assert!(rt; !report.mark.has_failed);
     Ok(())
+}
+
+/// How many calls succeed of those that list, begin and read a file of three bytes by two at a time.
+fn calls_before_failure(alloc: Global, failing: u32) -> Result<u32, Fail> {
+    let files = files(alloc, file(alloc, "a", b"123")?, file(alloc, "b", b"")?)?;
+    if !is_frame_list(files.as_slice()) {
+        return Err(Fail::new("the names aren't in order"));
+    }
+    let mut frames = MemoryFrames::new(files, vec![in alloc; failing, 9]?, 2);
+    if frames.list().is_err() {
+        return Ok(0);
+    }
+    if frames.count() != 2 {
+        return Err(Fail::new("not two names"));
+    }
+    if frames.begin(0).is_err() {
+        return Ok(1);
+    }
+    let mut buf = [0; 8];
+    match frames.read(&mut buf) {
+        Err(Failed) => return Ok(2),
+        Ok(n) if n == 2 && buf[1] == b'2' => {}
+        Ok(_) => return Err(Fail::new("not two bytes")),
+    }
+    match frames.read(&mut buf) {
+        Err(Failed) => Ok(3),
+        Ok(n) if n == 1 && buf[0] == b'3' => Ok(4),
+        Ok(_) => Err(Fail::new("not the last byte")),
+    }
 }
 
 #[test]
 fn planned_reads_fail(rt: HostRuntime) -> Result<(), Fail> {
-    let alloc = rt.alloc();
-    let files = files(alloc, file(alloc, "a", b"123")?, file(alloc, "b", b"")?)?;
-    assert!(rt; is_frame_list(files.as_slice()));
-    let mut frames = MemoryFrames::new(files, vec![in alloc; 0, 3]?, 2);
-    assert!(rt; frames.list().is_err());
-    frames.list()?;
-    assert!(rt; frames.count() == 2);
-    frames.begin(0)?;
-    let mut buf = [0; 8];
-    assert!(rt; frames.read(&mut buf).is_err());
-    assert!(rt; matches!(frames.read(&mut buf), Ok(2)));
-    assert!(rt; matches!(frames.read(&mut buf), Ok(1)));
-    assert!(rt; buf[0] == b'3' && buf[1] == b'2');
+    for failing in 0..5 {
+        assert!(rt; calls_before_failure(rt.alloc(), failing)? == failing);
+    }
     Ok(())
 }
 
 #[test]
 fn planned_writes_fail(rt: HostRuntime) -> Result<(), Fail> {
     let alloc = rt.alloc();
-    let mut outputs = MemoryOutputs::new(alloc, vec![in alloc; 2, 4]?, 2);
+    let mut outputs = MemoryOutputs::new(alloc, vec![in alloc; 6]?, 2);
     outputs.begin("a.j2c")?;
-    // Calls 1 and 2, 3 and 4, 5.
-    assert!(rt; write_all(&mut outputs, b"123").is_err());
-    write_all(&mut outputs, b"45")?;
-    assert!(rt; outputs.finish().is_err());
+    write_all(&mut outputs, b"123")?;
     outputs.finish()?;
+    outputs.begin("b.j2c")?;
+    // Calls 5 and 6, of two bytes and one.
+    assert!(rt; write_all(&mut outputs, b"456").is_err());
     let files = outputs.files();
-    assert!(rt; files.len() == 1);
-    assert!(rt; files[0].bytes() == b"1245".as_slice());
+    assert!(rt; files.len() == 1 && files[0].bytes() == b"123".as_slice());
+    let unfinished = outputs.unfinished().ok_or("nothing unfinished")?;
+    assert!(rt; unfinished.name() == "b.j2c" && unfinished.bytes() == b"45".as_slice());
     Ok(())
 }
 
@@ -124,7 +147,9 @@ fn make_source<R: Files + AllocGlobal>(rt: &R) -> io::Result<()> {
     symlink(rt, "a.ppm", "cine_ports_source/link.ppm")
 }
 
-fn source<R: Files + AllocGlobal + Clone + Drop>(rt: &R) -> Result<FolderFrames<R>, AllocError> {
+fn source<R: Files + AllocGlobal + Clone + Drop>(rt: &R) -> Result<FolderFrames<R>, AllocError>
+    ensures { IfOk result (λ frames. frames.mark.has_failed ≡ false) }
+{
     let alloc = rt.alloc();
     let folder = String::from_str(alloc, SOURCE)?;
     Ok(FolderFrames::new(rt.clone()?, folder, String::from_str(alloc, ".ppm")?))
@@ -137,12 +162,12 @@ fn a_folder_is_read(rt: HostRuntime) -> Result<(), Fail> {
     frames.list()?;
     assert!(rt; frames.count() == 3);
     assert!(rt; frames.name(1) == "a-b" && frames.name(2) == "link");
-    let read = front(rt.alloc(), &mut frames, 2)?;
+    let read = first_bytes(rt.alloc(), &mut frames, 2)?;
     assert!(rt; read.as_slice() == b"12345".as_slice());
     symlink(&rt, "missing", "cine_ports_source/broken.ppm")?;
     let mut broken = source(&rt)?;
     assert!(rt; broken.list().is_err());
-    assert!(rt; frames.faults.count == 0 && broken.faults.count == 1);
+    assert!(rt; !frames.mark.has_failed && broken.mark.has_failed);
     fs::remove_dir_all(&rt, SOURCE)?;
     Ok(())
 }
@@ -156,7 +181,8 @@ fn target<R: Files + AllocGlobal + Clone + Drop>(
     rt: &R,
     folder: &str,
 ) -> Result<FolderOutputs<R>, AllocError>
-    ensures { IfOk result (λ outputs. is_some outputs.part ≡ false) }
+    ensures closed { IfOk result (λ outputs. is_some outputs.part ≡ false) }
+    ensures working { IfOk result (λ outputs. outputs.mark.has_failed ≡ false) }
 {
     Ok(FolderOutputs::new(rt.clone()?, String::from_str(rt.alloc(), folder)?))
 }
@@ -174,7 +200,7 @@ fn a_folder_is_written(rt: HostRuntime) -> Result<(), Fail> {
     // No folder stands below a file.
     let mut below = target(&rt, WHOLE)?;
     assert!(rt; below.begin("b.j2c").is_err());
-    assert!(rt; outputs.faults.count == 0 && below.faults.count == 1);
+    assert!(rt; !outputs.mark.has_failed && below.mark.has_failed);
     fs::remove_dir_all(&rt, TARGET)?;
     Ok(())
 }

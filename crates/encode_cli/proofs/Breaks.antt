@@ -4,7 +4,7 @@ use Rattle.std.proofs.lemmas.List.{append-nil}
 use Rattle.std.specs.Option.{ForSome}
 use Rattle.cine_ports.specs.Source.{File}
 use Rattle.cine_ports.specs.Outputs.{Kept}
-use Rattle.cine_ports.specs.Moves.{HasSomeBytesOf}
+use Rattle.cine_ports.specs.WholePieces.{SaidProperPrefix}
 use Rattle.pnm_frames.specs.Picture.{Picture}
 use Rattle.pnm_frames.specs.Fault.{Fault}
 use Rattle.frame_encoder.specs.Encoded.{empty_codestream_of}
@@ -49,9 +49,9 @@ put_made name p output bytes k0 k1 named made h =
     subst (Made (output_name name)) made (subst (λ (o : List ℕ). Made o bytes) named h)
 
 -- broken off while its line was said
-pub say_broken : (visit : Visit) (line : List ℕ) (k0 k1 : Option Kept) (s0 s1 : Option (List ℕ)) → line ≡ line_of visit → k1 ≡ option_map (kept_and (outputs_of visit)) k0 → HasSomeBytesOf line s0 s1 → BrokenOff visit k0 k1 s0 s1
+pub say_broken : (visit : Visit) (line : List ℕ) (k0 k1 : Option Kept) (s0 s1 : Option (List ℕ)) → line ≡ line_of visit → k1 ≡ option_map (kept_and (outputs_of visit)) k0 → SaidProperPrefix line s0 s1 → BrokenOff visit k0 k1 s0 s1
 say_broken visit line k0 k1 s0 s1 same put some =
-    let here = subst (λ (l : List ℕ). HasSomeBytesOf l s0 s1) same some in
+    let here = subst (λ (l : List ℕ). SaidProperPrefix l s0 s1) same some in
     record { point = Saying visit here.0; is_point = here.1; of_visit = refl; kept = put; said = here.2 }
 
 -- a refused frame adds no output
@@ -60,6 +60,6 @@ none_added None = refl
 none_added (Some kept) = ap (λ (files : List File). Some (record { finished = files; unfinished = None })) (sym (append-nil (kept.finished ++ [])))
 
 -- broken off while the line of a refused frame was said
-pub refuse_broken : (name : List ℕ) (fault : Fault) (line : List ℕ) (k : Option Kept) (s0 s1 : Option (List ℕ)) → line ≡ line_of (record { name = name; found = Err fault }) → HasSomeBytesOf line s0 s1 → BrokenOff (record { name = name; found = Err fault }) (option_map (kept_and []) k) (option_map (kept_and []) k) s0 s1
+pub refuse_broken : (name : List ℕ) (fault : Fault) (line : List ℕ) (k : Option Kept) (s0 s1 : Option (List ℕ)) → line ≡ line_of (record { name = name; found = Err fault }) → SaidProperPrefix line s0 s1 → BrokenOff (record { name = name; found = Err fault }) (option_map (kept_and []) k) (option_map (kept_and []) k) s0 s1
 refuse_broken name fault line k s0 s1 same some =
     say_broken (record { name = name; found = Err fault }) line (option_map (kept_and []) k) (option_map (kept_and []) k) s0 s1 same (none_added k) some

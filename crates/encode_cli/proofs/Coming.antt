@@ -6,7 +6,7 @@ use Rattle.std.proofs.lemmas.List.{append-nil}
 use Rattle.std.proofs.lemmas.Grind.{flat_map-append}
 use Rattle.cine_ports.specs.Outputs.{Kept, kept_nothing}
 use Rattle.cine_ports.specs.Source.{File}
-use Rattle.cine_ports.specs.Moves.{said_with}
+use Rattle.cine_ports.specs.WholePieces.{said_with}
 use Rattle.encode_cli.specs.Put.{kept_and}
 use Rattle.encode_cli.specs.Visit.{Visit, outputs_of, line_of, is_refused, Point, Before, kept_at, said_at}
 use Rattle.encode_cli.specs.Progress.{kept_after, said_after, visits_of, HasCome, HasVisited, BreaksOffAt, IsBroken, IsPointAt}

@@ -1,13 +1,12 @@
 -- A refusal that is neither a failure of the source nor want of memory tells a fault of the file.
-use Rattle.std.proofs.Common.{◌≡◌, ℕ, Option, Some, Result, Err, IfSome, inl, inr, refl, subst, arith}
-use Rattle.cine_ports.specs.Cause.{Rose}
+use Rattle.std.proofs.Common.{◌≡◌, ◌==◌, ℕ, Bool, true, false, Option, Some, Result, Err, IfSome, inl, inr, refl, subst, arith}
 use Rattle.pnm_frames.specs.declared.refusal.FrameRefusal.{FrameRefusal}
 use Rattle.pnm_frames.specs.declared.refusal.FrameRefusal.TheVariants as refusals
-use Rattle.pnm_frames.specs.Fault.{Fault, NotPpm, BadHeader, HeaderTooLong, WrongMaxval, WidthOutOfRange, HeightOutOfRange, SampleTooLarge, Truncated, TrailingBytes, fault_of, Fails, CauseOf}
+use Rattle.pnm_frames.specs.Fault.{Fault, NotPpm, BadHeader, HeaderTooLong, WrongMaxval, WidthOutOfRange, HeightOutOfRange, SampleTooLarge, Truncated, TrailingBytes, fault_of, Fails, is_source_refusal}
 use Rattle.pnm_frames.specs.Picture.{Picture}
 use Rattle.encode_cli.specs.declared.stop.Stop.{Stop}
 use Rattle.encode_cli.specs.declared.stop.Stop.TheVariants as stops
-use Rattle.encode_cli.specs.Stop.{Stops, counts}
+use Rattle.encode_cli.specs.Stop.{status_of, source_failed, outputs_failed, report_failed}
 
 -- the fault that it tells
 pub fault_told : (e : FrameRefusal) → (e ≡ refusals.Source → ⊥) → (e ≡ refusals.Memory → ⊥) → (fault : Fault) × (fault_of e ≡ Some fault)
@@ -31,28 +30,35 @@ of_told P told fault is h = subst (λ (o : Option Fault). IfSome o P) is h
 pub faulty : {Q : Type 0} (e : FrameRefusal) (fault : Fault) (read : Result Picture Fault) → fault_of e ≡ Some fault → (Q → Fails e read) → Q → read ≡ Err fault
 faulty e fault read is h q = of_told (λ (f : Fault). read ≡ Err f) (fault_of e) fault is (h q)
 
--- no fault of the source is counted for it
-pub none_counted : (e : FrameRefusal) (before now : ℕ) → (e ≡ refusals.Source → ⊥) → CauseOf e before now → now ≡ before
-none_counted refusals.NotPpm before now ns h = h
-none_counted (refusals.BadHeader place) before now ns h = h
-none_counted refusals.HeaderTooLong before now ns h = h
-none_counted refusals.WrongMaxval before now ns h = h
-none_counted refusals.WidthOutOfRange before now ns h = h
-none_counted refusals.HeightOutOfRange before now ns h = h
-none_counted (refusals.SampleTooLarge place) before now ns h = h
-none_counted (refusals.Truncated seen) before now ns h = h
-none_counted refusals.TrailingBytes before now ns h = h
-none_counted refusals.Source before now ns h = absurd (ns refl)
-none_counted refusals.Memory before now ns h = h
+-- no read has failed for it
+pub none_failed : (e : FrameRefusal) → (e ≡ refusals.Source → ⊥) → is_source_refusal e ≡ false
+none_failed refusals.NotPpm ns = refl
+none_failed (refusals.BadHeader place) ns = refl
+none_failed refusals.HeaderTooLong ns = refl
+none_failed refusals.WrongMaxval ns = refl
+none_failed refusals.WidthOutOfRange ns = refl
+none_failed refusals.HeightOutOfRange ns = refl
+none_failed (refusals.SampleTooLarge place) ns = refl
+none_failed (refusals.Truncated seen) ns = refl
+none_failed refusals.TrailingBytes ns = refl
+none_failed refusals.Source ns = absurd (ns refl)
+none_failed refusals.Memory ns = refl
 
--- no count rises from 0 to 0
-never_rose : Rose 0 0 → ⊥
-never_rose (inl more) = omega (arith, more)
-never_rose (inr last) = omega (arith, last.0)
+-- what stopped a run shows in its status
+pub source_status : (stop : Stop) → source_failed {T = Bool} (Err stop) ≡ (status_of stop == 3)
+source_status stops.Source = refl
+source_status stops.Outputs = refl
+source_status stops.Report = refl
+source_status stops.Memory = refl
 
--- a stop of the report's, where the other counts stay
-pub stops_too : (f0 f1 o r0 r1 : ℕ) (stop : Stop) → f1 ≡ f0 → Stops (counts 0 0 r0) (counts 0 0 r1) stop → Stops (counts f0 o r0) (counts f1 o r1) stop
-stops_too f0 f1 o r0 r1 stops.Source same h = absurd (never_rose h.0)
-stops_too f0 f1 o r0 r1 stops.Outputs same h = absurd (never_rose h.1)
-stops_too f0 f1 o r0 r1 stops.Report same h = (same, refl, h.2)
-stops_too f0 f1 o r0 r1 stops.Memory same h = (same, refl, h.2)
+pub outputs_status : (stop : Stop) → outputs_failed {T = Bool} (Err stop) ≡ (status_of stop == 4)
+outputs_status stops.Source = refl
+outputs_status stops.Outputs = refl
+outputs_status stops.Report = refl
+outputs_status stops.Memory = refl
+
+pub report_status : (stop : Stop) → report_failed {T = Bool} (Err stop) ≡ (status_of stop == 5)
+report_status stops.Source = refl
+report_status stops.Outputs = refl
+report_status stops.Report = refl
+report_status stops.Memory = refl

@@ -3,7 +3,7 @@ use Rattle.std.specs.Prelude.{ℕ, ◌≡◌, ◌≤◌, Bool, List, Option, Som
 use Rattle.std.specs.List.{flat_map, list_any}
 use Rattle.cine_ports.specs.Source.{File}
 use Rattle.cine_ports.specs.Outputs.{Kept}
-use Rattle.cine_ports.specs.Moves.{said_with}
+use Rattle.cine_ports.specs.WholePieces.{said_with}
 use Rattle.encode_cli.specs.Put.{kept_and}
 use Rattle.encode_cli.specs.Visit.{Visit, visit_of, outputs_of, line_of, is_refused, Point, Before, Writing, Saying, IsPoint, kept_at, said_at}
 

@@ -1,11 +1,9 @@
 -- What a run promises of its three objects, where they tell what they hold.
 use Rattle.std.specs.Prelude.{ℕ, ◌≡◌, ◌≤◌, List, Option, IfSome, length, take}
 use Rattle.std.specs.List.{flat_map, AllByRecursion}
-use Rattle.cine_ports.specs.Cause.{Rose}
 use Rattle.cine_ports.specs.Source.{File}
 use Rattle.cine_ports.specs.Outputs.{Kept}
 use Rattle.frame_encoder.specs.declared.limits.TheConstants.{FRAME_LIMIT}
-use Rattle.encode_cli.specs.Stop.{Counts}
 use Rattle.encode_cli.specs.Visit.{outputs_of, Point, IsPoint, kept_at, said_at}
 use Rattle.encode_cli.specs.Progress.{visits_of, said_after, IsPointAt}
 
@@ -27,13 +25,3 @@ IsShort file = length file.bytes ≤ FRAME_LIMIT
 pub record AreShort (kept : Kept) : Type 0 where
   pub finished : AllByRecursion IsShort kept.finished
   pub unfinished : IfSome kept.unfinished IsShort
-
--- Why a run ended with this status: 3, 4 and 5 only where the count of faults of that object rose, and each
--- other count is as it was.
-pub record HasStatusCause (old new : Counts) (status : ℕ) : Type 0 where
-  pub source : status ≡ 3 → Rose old.frames new.frames
-  pub source_same : (status ≡ 3 → ⊥) → new.frames ≡ old.frames
-  pub outputs : status ≡ 4 → Rose old.outputs new.outputs
-  pub outputs_same : (status ≡ 4 → ⊥) → new.outputs ≡ old.outputs
-  pub report : status ≡ 5 → Rose old.report new.report
-  pub report_same : (status ≡ 5 → ⊥) → new.report ≡ old.report

@@ -1,8 +1,7 @@
--- What ended a run, and its cause.
-use Rattle.std.specs.Prelude.{ℕ, ◌≡◌, Result, Ok, Err}
+-- What ended a run before its last frame.
+use Rattle.std.specs.Prelude.{ℕ, Bool, true, false, Result, Ok, Err}
 use Rattle.cine_ports.specs.declared.fault.PortFault.{PortFault}
 use Rattle.cine_ports.specs.declared.fault.PortFault.TheVariants as port_faults
-use Rattle.cine_ports.specs.Cause.{Rose}
 use Rattle.encode_cli.specs.declared.stop.Stop.{Stop}
 use Rattle.encode_cli.specs.declared.stop.Stop.TheVariants as stops
 
@@ -26,30 +25,26 @@ abbrev pub report_stop : PortFault → Stop
 report_stop port_faults.Failed = stops.Report
 report_stop port_faults.Memory = stops.Memory
 
--- the counts of faults of the three objects
-pub record Counts : Type 0 where
-  pub frames : ℕ
-  pub outputs : ℕ
-  pub report : ℕ
+-- what was stopped by a failed call of the source
+abbrev pub source_failed : {T : Type 0} → Result T Stop → Bool
+source_failed (Ok value) = false
+source_failed (Err stops.Source) = true
+source_failed (Err stops.Outputs) = false
+source_failed (Err stops.Report) = false
+source_failed (Err stops.Memory) = false
 
--- Of two sets of counts the second is reached by this stop: the count of the object that it names rose, and no
--- other changed. Where memory is wanting no count changed.
-abbrev pub Stops : Counts → Counts → Stop → Type 0
-Stops old new stops.Source =
-    Rose old.frames new.frames × (new.outputs ≡ old.outputs) × (new.report ≡ old.report)
-Stops old new stops.Outputs =
-    (new.frames ≡ old.frames) × Rose old.outputs new.outputs × (new.report ≡ old.report)
-Stops old new stops.Report =
-    (new.frames ≡ old.frames) × (new.outputs ≡ old.outputs) × Rose old.report new.report
-Stops old new stops.Memory =
-    (new.frames ≡ old.frames) × (new.outputs ≡ old.outputs) × (new.report ≡ old.report)
+-- what was stopped by a failed call of the outputs
+abbrev pub outputs_failed : {T : Type 0} → Result T Stop → Bool
+outputs_failed (Ok value) = false
+outputs_failed (Err stops.Source) = false
+outputs_failed (Err stops.Outputs) = true
+outputs_failed (Err stops.Report) = false
+outputs_failed (Err stops.Memory) = false
 
--- What stops has its cause; where nothing stops no count changed.
-abbrev pub HasStopCause : {T : Type 0} → Counts → Counts → Result T Stop → Type 0
-HasStopCause old new (Ok value) =
-    (new.frames ≡ old.frames) × (new.outputs ≡ old.outputs) × (new.report ≡ old.report)
-HasStopCause old new (Err stop) = Stops old new stop
-
--- three counts
-abbrev pub counts : ℕ → ℕ → ℕ → Counts
-counts frames outputs report = record { frames = frames; outputs = outputs; report = report }
+-- what was stopped by a failed call of the report
+abbrev pub report_failed : {T : Type 0} → Result T Stop → Bool
+report_failed (Ok value) = false
+report_failed (Err stops.Source) = false
+report_failed (Err stops.Outputs) = false
+report_failed (Err stops.Report) = true
+report_failed (Err stops.Memory) = false

@@ -56,6 +56,7 @@ fn run_over<F: Frames>(
     frames: &mut F,
     target: Option<String>,
 ) -> Result<u8, AllocError>
+    requires working { F.has_failed frames.old ≡ false }
     requires unlisted { (F.source frames.old).is_listed ≡ false }
 {
     let alloc = rt.alloc();

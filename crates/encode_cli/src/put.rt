@@ -1,7 +1,7 @@
 // A whole output.
 ghost use Rattle.std.specs.Prelude.{◌≡◌, [], ◌∷◌, false, map, option_map, Contains, OnOk, OnErr};
 ghost use Rattle.std.specs.Option.{ForSome};
-ghost use Rattle.cine_ports.specs.Cause.{HasCause};
+ghost use Rattle.cine_ports.specs.Failure.{is_failed};
 ghost use Rattle.encode_cli.specs.Put.{kept_and, HasPartOf};
 
 use cine_ports::{Outputs, PortFault, write_all};
@@ -10,6 +10,7 @@ use cine_ports::{Outputs, PortFault, write_all};
 ///
 /// A refusal leaves it unbegun, or unfinished with some front of its bytes.
 pub fn put_output<O: Outputs>(outputs: &mut O, name: &str, bytes: &[u8]) -> Result<(), PortFault>
+    requires working { O.has_failed outputs.old ≡ false }
     requires closed { O.is_open outputs.old ≡ false }
     requires other_name { ForSome (O.kept outputs.old)
         (λ kept. ¬ Contains (map (λ file. file.name) kept.finished) name.now) }
@@ -17,7 +18,7 @@ pub fn put_output<O: Outputs>(outputs: &mut O, name: &str, bytes: &[u8]) -> Resu
         ≡ option_map (kept_and (record { name = name.now; bytes = bytes.now } ∷ [])) (O.kept outputs.old)) }
     ensures closed { OnOk result (O.is_open outputs.new ≡ false) }
     ensures err { OnErr result (HasPartOf name.now bytes.now (O.kept outputs.old) (O.kept outputs.new)) }
-    ensures cause { HasCause (O.faults outputs.old) (O.faults outputs.new) result }
+    ensures failed { O.has_failed outputs.new ≡ is_failed result }
 {
     outputs.begin(name)?;
     write_all(outputs, bytes)?;

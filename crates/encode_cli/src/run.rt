@@ -1,14 +1,13 @@
 // The whole run.
-ghost use Rattle.std.specs.Prelude.{◌≡◌, ◌≤◌, ◌↔◌, if◌then◌else◌, List, [], false, IsTrue, IfSome};
+ghost use Rattle.std.specs.Prelude.{◌≡◌, ◌==◌, ◌≤◌, ◌↔◌, if◌then◌else◌, List, [], false, IsTrue, IfSome};
 ghost use Rattle.std.specs.List.{list_any, AllByRecursion};
 ghost use Rattle.std.specs.Option.{ForSome};
 ghost use Rattle.cine_ports.specs.Outputs.{kept_nothing};
 ghost use Rattle.cine_ports.specs.Source.{File};
 ghost use Rattle.encode_cli.specs.Words.{texts, AreGood};
-ghost use Rattle.encode_cli.specs.Stop.{counts};
 ghost use Rattle.encode_cli.specs.Visit.{is_refused, IsWritable};
 ghost use Rattle.encode_cli.specs.Progress.{visits_of, kept_after, said_after};
-ghost use Rattle.encode_cli.specs.Run.{AreShort, StopsAt, HasStatusCause};
+ghost use Rattle.encode_cli.specs.Run.{AreShort, StopsAt};
 
 use crate::visits::visit_all;
 use crate::words::are_good;
@@ -28,7 +27,7 @@ fn visited_status(some_refused: bool) -> u8
 /// The answer is the status: 0 where all frames were visited and none was refused, 1 where all were and some
 /// was, 2 where the words are no command, 3, 4 and 5 where a call of the source, the outputs and the report
 /// failed, and 6 where memory was wanting. A fault or want of memory ends the run at once.
-#[tactic(auto, using(crate::proofs::Limits::all_within, crate::proofs::Limits::come_short, crate::proofs::Limits::broken_short, crate::proofs::Limits::none_short))]
+#[tactic(auto, using(crate::proofs::Limits::all_within, crate::proofs::Limits::come_short, crate::proofs::Limits::broken_short, crate::proofs::Limits::none_short, crate::proofs::Faults::source_status, crate::proofs::Faults::outputs_status, crate::proofs::Faults::report_status))]
 pub fn run<F: Frames, O: Outputs, S: Report>(
     alloc: Global,
     words: &[String],
@@ -36,6 +35,9 @@ pub fn run<F: Frames, O: Outputs, S: Report>(
     outputs: &mut O,
     report: &mut S,
 ) -> u8
+    requires source_working { F.has_failed frames.old ≡ false }
+    requires outputs_working { O.has_failed outputs.old ≡ false }
+    requires report_working { S.has_failed report.old ≡ false }
     requires unlisted { (F.source frames.old).is_listed ≡ false }
     requires closed { O.is_open outputs.old ≡ false }
     requires nothing_kept { ForSome (O.kept outputs.old) (λ kept. kept ≡ kept_nothing) }
@@ -66,8 +68,11 @@ pub fn run<F: Frames, O: Outputs, S: Report>(
     ensures stopped { 3 ≤ result → (files : List File) → (F.source frames.old).files ≡ Some files →
         StopsAt files (F.reading frames.new).asked (O.kept outputs.new) (S.said report.new) }
 
-    ensures causes { HasStatusCause (counts (F.faults frames.old) (O.faults outputs.old) (S.faults report.old))
-        (counts (F.faults frames.new) (O.faults outputs.new) (S.faults report.new)) result }
+    // Status 3, 4 and 5 come exactly if a call of the source, the outputs and the report failed; no call
+    // of an object is made after one that failed.
+    ensures source_failed { F.has_failed frames.new ≡ (result == 3) }
+    ensures outputs_failed { O.has_failed outputs.new ≡ (result == 4) }
+    ensures report_failed { S.has_failed report.new ≡ (result == 5) }
 {
     if !are_good(words) {
         return 2;

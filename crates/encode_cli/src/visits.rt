@@ -1,7 +1,7 @@
 // One frame after the other.
 ghost use Rattle.std.specs.Prelude.{◌≡◌, ◌<◌, ◌||◌, ℕ, List, [], false, length, map, slice_get, IsTrue, IfOk, IfSome, OnOk, OnErr, Contains};
 ghost use Rattle.std.specs.Option.{ForSome};
-ghost use Rattle.encode_cli.specs.Stop.{HasStopCause, counts};
+ghost use Rattle.encode_cli.specs.Stop.{source_failed, outputs_failed, report_failed};
 ghost use Rattle.encode_cli.specs.Visit.{output_name};
 ghost use Rattle.cine_ports.specs.Outputs.{kept_nothing};
 ghost use Rattle.encode_cli.specs.Progress.{HasVisited, BreaksOffAt, HasCome, IsBroken};
@@ -20,6 +20,7 @@ const SIZES: SizeLimits = SizeLimits {
 
 /// Visits the frame at place `i`: where its file is a frame, writes its codestream and then says its line,
 /// else says its first fault. Answers whether it is refused.
+#[tactic(auto, using(crate::proofs::Faults::none_failed))]
 fn visit<F: Frames, O: Outputs, S: Report>(
     alloc: Global,
     i: u32,
@@ -27,6 +28,9 @@ fn visit<F: Frames, O: Outputs, S: Report>(
     outputs: &mut O,
     report: &mut S,
 ) -> Result<bool, Stop>
+    requires source_working { F.has_failed frames.old ≡ false }
+    requires outputs_working { O.has_failed outputs.old ≡ false }
+    requires report_working { S.has_failed report.old ≡ false }
     requires place { i < length (F.source frames.old).names }
     requires listed { IfSome (F.source frames.old).files
         (λ files. (F.source frames.old).names ≡ map (λ file. file.name) files) }
@@ -42,8 +46,9 @@ fn visit<F: Frames, O: Outputs, S: Report>(
         (O.kept outputs.old) (O.kept outputs.new) (S.said report.old) (S.said report.new)) }
     ensures source { F.source frames.new ≡ F.source frames.old }
     ensures asked { (F.reading frames.new).asked ≡ i }
-    ensures cause { HasStopCause (counts (F.faults frames.old) (O.faults outputs.old) (S.faults report.old))
-        (counts (F.faults frames.new) (O.faults outputs.new) (S.faults report.new)) result }
+    ensures source_failed { F.has_failed frames.new ≡ source_failed result }
+    ensures outputs_failed { O.has_failed outputs.new ≡ outputs_failed result }
+    ensures report_failed { S.has_failed report.new ≡ report_failed result }
 {
     match frames.begin(i) {
         Ok(()) => {}
@@ -79,6 +84,9 @@ pub fn visit_all<F: Frames, O: Outputs, S: Report>(
     outputs: &mut O,
     report: &mut S,
 ) -> Result<bool, Stop>
+    requires source_working { F.has_failed frames.old ≡ false }
+    requires outputs_working { O.has_failed outputs.old ≡ false }
+    requires report_working { S.has_failed report.old ≡ false }
     requires unlisted { (F.source frames.old).is_listed ≡ false }
     requires closed { O.is_open outputs.old ≡ false }
     requires kept { ForSome (O.kept outputs.old) (λ kept. kept ≡ kept_nothing) }
@@ -90,8 +98,9 @@ pub fn visit_all<F: Frames, O: Outputs, S: Report>(
         (O.kept outputs.old) (O.kept outputs.new) (S.said report.old) (S.said report.new) refused) }
     ensures err { OnErr result (IsBroken (F.source frames.old).files (F.reading frames.new).asked
         (O.kept outputs.old) (O.kept outputs.new) (S.said report.old) (S.said report.new)) }
-    ensures cause { HasStopCause (counts (F.faults frames.old) (O.faults outputs.old) (S.faults report.old))
-        (counts (F.faults frames.new) (O.faults outputs.new) (S.faults report.new)) result }
+    ensures source_failed { F.has_failed frames.new ≡ source_failed result }
+    ensures outputs_failed { O.has_failed outputs.new ≡ outputs_failed result }
+    ensures report_failed { S.has_failed report.new ≡ report_failed result }
 {
     match frames.list() {
         Ok(()) => {}

@@ -1,11 +1,11 @@
 // What is written and said of one frame.
 ghost use Rattle.std.specs.Prelude.{Option, ◌≡◌, ◌≤◌, [], false, map, option_map, Contains, OnOk, OnErr, IfOk, IfSome, string_bytes};
 ghost use Rattle.std.specs.Option.{ForSome};
-ghost use Rattle.cine_ports.specs.Moves.{said_with};
+ghost use Rattle.cine_ports.specs.WholePieces.{said_with};
 ghost use Rattle.cine_ports.specs.Outputs.{Kept};
 ghost use Rattle.pnm_frames.specs.Fault.{fault_of};
 ghost use Rattle.encode_cli.specs.Put.{kept_and};
-ghost use Rattle.encode_cli.specs.Stop.{HasStopCause, counts};
+ghost use Rattle.encode_cli.specs.Stop.{source_failed, outputs_failed, report_failed};
 ghost use Rattle.encode_cli.specs.Visit.{output_name, outputs_of, line_of, accepted, refused, BrokenOff};
 
 use crate::lines::{ok_line, refused_line};
@@ -35,6 +35,8 @@ pub fn write_frame<O: Outputs, S: Report>(
     requires width { frame.now.width ≤ 2048 }
     requires some_height { 1 ≤ frame.now.height }
     requires height { frame.now.height ≤ 1080 }
+    requires outputs_working { O.has_failed outputs.old ≡ false }
+    requires report_working { S.has_failed report.old ≡ false }
     requires closed { O.is_open outputs.old ≡ false }
     requires at_rest { ForSome (O.kept outputs.old) (λ kept. kept.unfinished ≡ None) }
     requires other_name { ForSome (O.kept outputs.old)
@@ -46,8 +48,9 @@ pub fn write_frame<O: Outputs, S: Report>(
     ensures closed { OnOk result (O.is_open outputs.new ≡ false) }
     ensures err { OnErr result (BrokenOff (accepted name.now frame.now)
         (O.kept outputs.old) (O.kept outputs.new) (S.said report.old) (S.said report.new)) }
-    ensures cause { HasStopCause (counts 0 (O.faults outputs.old) (S.faults report.old))
-        (counts 0 (O.faults outputs.new) (S.faults report.new)) result }
+    ensures no_source { source_failed result ≡ false }
+    ensures outputs_failed { O.has_failed outputs.new ≡ outputs_failed result }
+    ensures report_failed { S.has_failed report.new ≡ report_failed result }
 {
     let output = output_name(alloc, name)?;
     let made = encode(alloc, frame)?;
@@ -69,11 +72,14 @@ pub fn refuse<S: Report>(
     refusal: FrameRefusal,
     report: &mut S,
 ) -> Result<(), Stop>
+    requires { S.has_failed report.old ≡ false }
     ensures said { OnOk result (IfSome (fault_of refusal) (λ fault. S.said report.new
         ≡ option_map (said_with (line_of (refused name.now fault))) (S.said report.old))) }
     ensures err { (kept : Option Kept) → OnErr result (IfSome (fault_of refusal) (λ fault. BrokenOff (refused name.now fault)
         (option_map (kept_and []) kept) (option_map (kept_and []) kept) (S.said report.old) (S.said report.new))) }
-    ensures cause { HasStopCause (counts 0 0 (S.faults report.old)) (counts 0 0 (S.faults report.new)) result }
+    ensures no_source { source_failed result ≡ false }
+    ensures no_outputs { outputs_failed result ≡ false }
+    ensures report_failed { S.has_failed report.new ≡ report_failed result }
 {
     let line = refused_line(alloc, name, refusal)?;
     match say(report, line.as_bytes()) {

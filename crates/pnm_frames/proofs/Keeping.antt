@@ -1,7 +1,7 @@
 -- What every call keeps, over calls one after the other.
 use Rattle.std.proofs.Common.{◌≡◌, ℕ, List, [], ◌++◌, IsTrue, IsSome, refl, sym, ap, subst, ◌∙◌, append_assoc}
 use Rattle.cine_ports.specs.Source.{Source, Reading}
-use Rattle.cine_ports.specs.Moves.{IsEndOf}
+use Rattle.cine_ports.specs.WholePieces.{IsSuffixOf}
 use Rattle.pnm_frames.specs.Keeps.{ReadsOn}
 
 -- nothing was called
@@ -15,8 +15,8 @@ keeps-then a b c p q r first second = record {
   asked = second.asked ∙ first.asked;
   source = second.source ∙ first.source;
   left = λ told.
-      let x : IsEndOf q.left p.left = first.left told in
-      let y : IsEndOf r.left q.left = second.left (subst (λ (s : Source). IsSome s.files) (sym first.source) told) in
+      let x : IsSuffixOf q.left p.left = first.left told in
+      let y : IsSuffixOf r.left q.left = second.left (subst (λ (s : Source). IsSome s.files) (sym first.source) told) in
       (x.0 ++ y.0, x.1 ∙ ap (λ (bytes : List ℕ). x.0 ++ bytes) y.1 ∙ sym (append_assoc x.0 y.0 r.left));
 }
 

@@ -1,6 +1,5 @@
 -- What is wrong with the bytes of a frame, and what a call answers.
-use Rattle.std.specs.Prelude.{ℕ, ◌≡◌, Option, Some, None, IfSome, Result, Ok, Err}
-use Rattle.cine_ports.specs.Cause.{Rose}
+use Rattle.std.specs.Prelude.{ℕ, ◌≡◌, Bool, true, false, Option, Some, None, IfSome, Result, Ok, Err}
 use Rattle.pnm_frames.specs.declared.refusal.FrameRefusal.{FrameRefusal}
 use Rattle.pnm_frames.specs.declared.refusal.FrameRefusal.TheVariants as refusals
 
@@ -54,23 +53,24 @@ abbrev pub Gives : {X Y : Type 0} → (X → Y) → Result X FrameRefusal → Re
 Gives view (Ok x) read = read ≡ Ok (view x)
 Gives view (Err e) read = Fails e read
 
--- A call is refused as Source only where the count of faults rose in it; any other answer leaves the count.
-abbrev pub CauseOf : FrameRefusal → ℕ → ℕ → Type 0
-CauseOf refusals.Source before now = Rose before now
-CauseOf refusals.NotPpm before now = now ≡ before
-CauseOf (refusals.BadHeader place) before now = now ≡ before
-CauseOf refusals.HeaderTooLong before now = now ≡ before
-CauseOf refusals.WrongMaxval before now = now ≡ before
-CauseOf refusals.WidthOutOfRange before now = now ≡ before
-CauseOf refusals.HeightOutOfRange before now = now ≡ before
-CauseOf (refusals.SampleTooLarge place) before now = now ≡ before
-CauseOf (refusals.Truncated seen) before now = now ≡ before
-CauseOf refusals.TrailingBytes before now = now ≡ before
-CauseOf refusals.Memory before now = now ≡ before
+-- whether a refusal is a failed read
+abbrev pub is_source_refusal : FrameRefusal → Bool
+is_source_refusal refusals.Source = true
+is_source_refusal refusals.NotPpm = false
+is_source_refusal (refusals.BadHeader place) = false
+is_source_refusal refusals.HeaderTooLong = false
+is_source_refusal refusals.WrongMaxval = false
+is_source_refusal refusals.WidthOutOfRange = false
+is_source_refusal refusals.HeightOutOfRange = false
+is_source_refusal (refusals.SampleTooLarge place) = false
+is_source_refusal (refusals.Truncated seen) = false
+is_source_refusal refusals.TrailingBytes = false
+is_source_refusal refusals.Memory = false
 
-abbrev pub HasFrameCause : {T : Type 0} → ℕ → ℕ → Result T FrameRefusal → Type 0
-HasFrameCause before now (Ok value) = now ≡ before
-HasFrameCause before now (Err e) = CauseOf e before now
+-- whether a call returned that a read failed
+abbrev pub is_source : {T : Type 0} → Result T FrameRefusal → Bool
+is_source (Ok value) = false
+is_source (Err e) = is_source_refusal e
 
 -- a refusal that a header gives
 abbrev pub IsOfHeader : FrameRefusal → Type 0

@@ -1,7 +1,7 @@
 // The header of a file: the magic number, the width, the height and the maxval.
-ghost use Rattle.std.specs.Prelude.{◌≡◌, ◌≤◌, ◌<◌, ◌+◌, ◌-◌, ◌*◌, ◌^◌, true, min, nat_le, ◌&&◌, if◌then◌else◌, IsTrue, IsSome, IfOk, IfErr, IfSome, OnOk};
+ghost use Rattle.std.specs.Prelude.{◌≡◌, false, ◌≤◌, ◌<◌, ◌+◌, ◌-◌, ◌*◌, ◌^◌, true, min, nat_le, ◌&&◌, if◌then◌else◌, IsTrue, IsSome, IfOk, IfErr, IfSome, OnOk};
 ghost use Rattle.std.specs.Char.{is_ascii_digit};
-ghost use Rattle.pnm_frames.specs.Fault.{Gives, HasFrameCause, IsOfHeader};
+ghost use Rattle.pnm_frames.specs.Fault.{Gives, is_source, IsOfHeader};
 ghost use Rattle.pnm_frames.specs.Grammar.{is_white as is_white_space};
 ghost use Rattle.pnm_frames.specs.Keeps.{ReadsOn};
 ghost use Rattle.pnm_frames.specs.Reading.{byte_at, capped, digits_at, header_at, magic_at, ranged_at, white_at};
@@ -28,6 +28,7 @@ fn is_white(b: u8) -> bool
 
 /// Reads the header byte at a place, and moves the place behind it.
 fn read_header_byte<F: Frames>(f: &mut F, at: &mut u32) -> Result<u8, FrameRefusal>
+    requires working { F.has_failed f.old ≡ false }
     requires begun { IsTrue (F.reading f.old).is_begun }
     requires at { at.old ≤ 4096 }
     ensures reads { IsSome (F.source f.old).files →
@@ -36,7 +37,7 @@ fn read_header_byte<F: Frames>(f: &mut F, at: &mut u32) -> Result<u8, FrameRefus
     ensures room { OnOk result (at.old < 4096) }
     ensures refusals { IfErr result IsOfHeader }
     ensures keeps { ReadsOn (F.source f.old) (F.source f.new) (F.reading f.old) (F.reading f.new) }
-    ensures cause { HasFrameCause (F.faults f.old) (F.faults f.new) result }
+    ensures failed { F.has_failed f.new ≡ is_source result }
 {
     if *at >= 4096 {
         return Err(FrameRefusal::HeaderTooLong);
@@ -50,6 +51,7 @@ fn read_header_byte<F: Frames>(f: &mut F, at: &mut u32) -> Result<u8, FrameRefus
 
 /// Reads further white space, and the byte behind it.
 fn skip_white<F: Frames>(f: &mut F, at: &mut u32) -> Result<u8, FrameRefusal>
+    requires working { F.has_failed f.old ≡ false }
     requires begun { IsTrue (F.reading f.old).is_begun }
     requires at { at.old ≤ 4096 }
     ensures reads { IsSome (F.source f.old).files →
@@ -58,7 +60,7 @@ fn skip_white<F: Frames>(f: &mut F, at: &mut u32) -> Result<u8, FrameRefusal>
     ensures high { OnOk result (at.new ≤ 4096) }
     ensures refusals { IfErr result IsOfHeader }
     ensures keeps { ReadsOn (F.source f.old) (F.source f.new) (F.reading f.old) (F.reading f.new) }
-    ensures cause { HasFrameCause (F.faults f.old) (F.faults f.new) result }
+    ensures failed { F.has_failed f.new ≡ is_source result }
 {
     loop {
         let b = read_header_byte(f, at)?;
@@ -71,6 +73,7 @@ fn skip_white<F: Frames>(f: &mut F, at: &mut u32) -> Result<u8, FrameRefusal>
 /// Reads further digits of a number that is worth n so far, and the white space byte that ends it.
 /// A number of 2^32 or more is answered as 2^32.
 fn read_digits<F: Frames>(f: &mut F, at: &mut u32, n: u64) -> Result<u64, FrameRefusal>
+    requires working { F.has_failed f.old ≡ false }
     requires begun { IsTrue (F.reading f.old).is_begun }
     requires at { at.old ≤ 4096 }
     requires n { n ≤ 2 ^ 32 }
@@ -80,7 +83,7 @@ fn read_digits<F: Frames>(f: &mut F, at: &mut u32, n: u64) -> Result<u64, FrameR
     ensures at { OnOk result (at.new ≤ 4096) }
     ensures refusals { IfErr result IsOfHeader }
     ensures keeps { ReadsOn (F.source f.old) (F.source f.new) (F.reading f.old) (F.reading f.new) }
-    ensures cause { HasFrameCause (F.faults f.old) (F.faults f.new) result }
+    ensures failed { F.has_failed f.new ≡ is_source result }
 {
     let mut n = n;
     loop {
@@ -115,6 +118,7 @@ fn read_number<F: Frames>(
     low: u32,
     high: u32,
 ) -> Result<Option<u32>, FrameRefusal>
+    requires working { F.has_failed f.old ≡ false }
     requires begun { IsTrue (F.reading f.old).is_begun }
     requires at { at.old ≤ 4096 }
     ensures reads { IsSome (F.source f.old).files →
@@ -124,7 +128,7 @@ fn read_number<F: Frames>(
     ensures at { OnOk result (at.new ≤ 4096) }
     ensures refusals { IfErr result IsOfHeader }
     ensures keeps { ReadsOn (F.source f.old) (F.source f.new) (F.reading f.old) (F.reading f.new) }
-    ensures cause { HasFrameCause (F.faults f.old) (F.faults f.new) result }
+    ensures failed { F.has_failed f.new ≡ is_source result }
 {
     let first = skip_white(f, at)?;
     if !first.is_ascii_digit() {
@@ -150,6 +154,7 @@ fn in_range(n: u64, low: u32, high: u32) -> Option<u32>
 /// Reads the magic number and the white space byte behind it.
 #[tactic(auto, unfolding(crate::specs::Reading::magic_at))]
 fn read_magic<F: Frames>(f: &mut F, at: &mut u32) -> Result<(), FrameRefusal>
+    requires working { F.has_failed f.old ≡ false }
     requires begun { IsTrue (F.reading f.old).is_begun }
     requires at { at.old ≤ 4096 }
     ensures reads { IsSome (F.source f.old).files →
@@ -157,7 +162,7 @@ fn read_magic<F: Frames>(f: &mut F, at: &mut u32) -> Result<(), FrameRefusal>
     ensures at { OnOk result (at.new ≤ 4096) }
     ensures refusals { IfErr result IsOfHeader }
     ensures keeps { ReadsOn (F.source f.old) (F.source f.new) (F.reading f.old) (F.reading f.new) }
-    ensures cause { HasFrameCause (F.faults f.old) (F.faults f.new) result }
+    ensures failed { F.has_failed f.new ≡ is_source result }
 {
     if read_header_byte(f, at)? != b'P' {
         return Err(FrameRefusal::NotPpm);
@@ -180,7 +185,8 @@ fn read_magic<F: Frames>(f: &mut F, at: &mut u32) -> Result<(), FrameRefusal>
 /// bytes. A failed read is refused as Source at once. Takes no memory.
 #[tactic(auto, unfolding(crate::specs::Reading::header_at))]
 pub fn read_header<F: Frames>(f: &mut F, limits: SizeLimits) -> Result<Header, FrameRefusal>
-    requires { IsTrue (F.reading f.old).is_begun }
+    requires working { F.has_failed f.old ≡ false }
+    requires begun { IsTrue (F.reading f.old).is_begun }
     ensures reads { IsSome (F.source f.old).files →
         Gives (λ header. ((header.width, header.height), header.bytes, (F.reading f.new).left)) result
         (header_at limits (F.reading f.old).left) }
@@ -191,7 +197,7 @@ pub fn read_header<F: Frames>(f: &mut F, limits: SizeLimits) -> Result<Header, F
     ensures bytes { IfOk result (λ header. header.bytes ≤ 4096) }
     ensures refusals { IfErr result IsOfHeader }
     ensures keeps { ReadsOn (F.source f.old) (F.source f.new) (F.reading f.old) (F.reading f.new) }
-    ensures cause { HasFrameCause (F.faults f.old) (F.faults f.new) result }
+    ensures failed { F.has_failed f.new ≡ is_source result }
 {
     let mut bytes = 0;
     read_magic(f, &mut bytes)?;

@@ -1,7 +1,7 @@
 // The raster: three samples a pixel, row by row.
-ghost use Rattle.std.specs.Prelude.{ℕ, ◌+◌, IfErr, OnErr, ◌≡◌, ◌≤◌, ◌<◌, ◌^◌, ◌*◌, ◌++◌, ◌↔◌, IsTrue, IsSome, All, length, OnOk, IfOk};
+ghost use Rattle.std.specs.Prelude.{ℕ, ◌+◌, IfErr, OnErr, ◌≡◌, false, ◌≤◌, ◌<◌, ◌^◌, ◌*◌, ◌++◌, ◌↔◌, IsTrue, IsSome, All, length, OnOk, IfOk};
 ghost use Rattle.std.specs.List.{flat_map};
-ghost use Rattle.pnm_frames.specs.Fault.{Fails, Gives, HasFrameCause, IsOfEnd, IsOfRow, fault_of};
+ghost use Rattle.pnm_frames.specs.Fault.{Fails, Gives, is_source, IsOfEnd, IsOfRow, fault_of};
 ghost use Rattle.pnm_frames.specs.Keeps.{ReadsOn};
 ghost use Rattle.pnm_frames.specs.Picture.{IsSample, interleaved, sample};
 ghost use Rattle.pnm_frames.specs.Reading.{ended, samples_at};
@@ -65,6 +65,7 @@ pub fn read_row<F: Frames>(
     scratch: &mut [u8],
     row: &mut [u16],
 ) -> Result<(), FrameRefusal>
+    requires working { F.has_failed f.old ≡ false }
     requires begun { IsTrue (F.reading f.old).is_begun }
     requires scratch { length scratch.old ≡ 2 * length row.old }
     requires row { length row.old ≤ 12288 }
@@ -78,7 +79,7 @@ pub fn read_row<F: Frames>(
     ensures err { OnErr result (at.new ≡ at.old) }
     ensures refusals { IfErr result IsOfRow }
     ensures keeps { ReadsOn (F.source f.old) (F.source f.new) (F.reading f.old) (F.reading f.new) }
-    ensures cause { HasFrameCause (F.faults f.old) (F.faults f.new) result }
+    ensures failed { F.has_failed f.new ≡ is_source result }
 {
     let seen = read_fully(f, scratch)?;
     if seen < scratch.len() {
@@ -96,11 +97,12 @@ pub fn read_row<F: Frames>(
 ///
 /// A further byte is refused as TrailingBytes, a failed read as Source. Takes no memory.
 pub fn expect_end<F: Frames>(f: &mut F) -> Result<(), FrameRefusal>
-    requires { IsTrue (F.reading f.old).is_begun }
+    requires working { F.has_failed f.old ≡ false }
+    requires begun { IsTrue (F.reading f.old).is_begun }
     ensures reads { IsSome (F.source f.old).files → Gives (λ nothing. nothing) result (ended tt (F.reading f.old).left) }
     ensures refusals { IfErr result IsOfEnd }
     ensures keeps { ReadsOn (F.source f.old) (F.source f.new) (F.reading f.old) (F.reading f.new) }
-    ensures cause { HasFrameCause (F.faults f.old) (F.faults f.new) result }
+    ensures failed { F.has_failed f.new ≡ is_source result }
 {
     match read_byte(f)? {
         None => Ok(()),
@@ -132,6 +134,7 @@ fn read_rows<F: Frames>(
     z: &mut [u16],
     header: Header,
 ) -> Result<(), FrameRefusal>
+    requires working { F.has_failed f.old ≡ false }
     requires begun { IsTrue (F.reading f.old).is_begun }
     requires width { header.width ≤ 4096 }
     requires size { header.width * header.height ≤ 4096 * 2160 }
@@ -150,7 +153,7 @@ fn read_rows<F: Frames>(
     ensures y_range { OnOk result (All IsSample y.new) }
     ensures z_range { OnOk result (All IsSample z.new) }
     ensures keeps { ReadsOn (F.source f.old) (F.source f.new) (F.reading f.old) (F.reading f.new) }
-    ensures cause { HasFrameCause (F.faults f.old) (F.faults f.new) result }
+    ensures failed { F.has_failed f.new ≡ is_source result }
 {
     let width = header.width as usize;
     let mut at = header.bytes;
@@ -175,6 +178,7 @@ pub fn read_raster<F: Frames>(
     f: &mut F,
     header: Header,
 ) -> Result<Frame, FrameRefusal>
+    requires working { F.has_failed f.old ≡ false }
     requires begun { IsTrue (F.reading f.old).is_begun }
     requires width { header.width ≤ 4096 }
     requires height { header.height ≤ 2160 }
@@ -187,7 +191,7 @@ pub fn read_raster<F: Frames>(
     ensures width { IfOk result (λ frame. frame.width ≡ header.width) }
     ensures height { IfOk result (λ frame. frame.height ≡ header.height) }
     ensures keeps { ReadsOn (F.source f.old) (F.source f.new) (F.reading f.old) (F.reading f.new) }
-    ensures cause { HasFrameCause (F.faults f.old) (F.faults f.new) result }
+    ensures failed { F.has_failed f.new ≡ is_source result }
 {
     let across = header.width as usize;
     let count = across * header.height as usize;

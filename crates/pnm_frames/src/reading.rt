@@ -1,7 +1,7 @@
 // A whole frame.
-ghost use Rattle.std.specs.Prelude.{◌≡◌, ◌≤◌, IsTrue, IsSome, IfOk, IfErr, IsOk, Ok};
-ghost use Rattle.cine_ports.specs.Moves.{IsEndOf};
-ghost use Rattle.pnm_frames.specs.Fault.{Gives, HasFrameCause};
+ghost use Rattle.std.specs.Prelude.{◌≡◌, false, ◌≤◌, IsTrue, IsSome, IfOk, IfErr, IsOk, Ok};
+ghost use Rattle.cine_ports.specs.WholePieces.{IsSuffixOf};
+ghost use Rattle.pnm_frames.specs.Fault.{Gives, is_source};
 ghost use Rattle.pnm_frames.specs.Grammar.{Spells};
 ghost use Rattle.pnm_frames.specs.Keeps.{ReadsOn};
 ghost use Rattle.pnm_frames.specs.Picture.{Fits, IsWithin, Picture};
@@ -19,6 +19,7 @@ use std::alloc::Global;
 
 /// Reads all that is left of the begun frame.
 fn read_all<F: Frames>(alloc: Global, f: &mut F, limits: SizeLimits) -> Result<Frame, FrameRefusal>
+    requires working { F.has_failed f.old ≡ false }
     requires begun { IsTrue (F.reading f.old).is_begun }
     requires width { limits.width ≤ 4096 }
     requires height { limits.height ≤ 2160 }
@@ -29,7 +30,7 @@ fn read_all<F: Frames>(alloc: Global, f: &mut F, limits: SizeLimits) -> Result<F
         IsOk (header_at limits (F.reading f.old).left)) }
     ensures sizes { IfOk result (λ frame. IsWithin limits frame.width frame.height) }
     ensures keeps { ReadsOn (F.source f.old) (F.source f.new) (F.reading f.old) (F.reading f.new) }
-    ensures cause { HasFrameCause (F.faults f.old) (F.faults f.new) result }
+    ensures failed { F.has_failed f.new ≡ is_source result }
 {
     let header = read_header(f, limits)?;
     let frame = read_raster(alloc, f, header)?;
@@ -48,6 +49,7 @@ pub fn read_frame<F: Frames>(
     f: &mut F,
     limits: SizeLimits,
 ) -> Result<Frame, FrameRefusal>
+    requires working { F.has_failed f.old ≡ false }
     requires begun { IsTrue (F.reading f.old).is_begun }
     requires width { limits.width ≤ 4096 }
     requires height { limits.height ≤ 2160 }
@@ -67,8 +69,8 @@ pub fn read_frame<F: Frames>(
     ensures begun { IsTrue (F.reading f.new).is_begun }
     ensures asked { (F.reading f.new).asked ≡ (F.reading f.old).asked }
     ensures source { F.source f.new ≡ F.source f.old }
-    ensures left { IsSome (F.source f.old).files → IsEndOf (F.reading f.new).left (F.reading f.old).left }
-    ensures cause { HasFrameCause (F.faults f.old) (F.faults f.new) result }
+    ensures left { IsSome (F.source f.old).files → IsSuffixOf (F.reading f.new).left (F.reading f.old).left }
+    ensures failed { F.has_failed f.new ≡ is_source result }
 {
     read_all(alloc, f, limits)
 }

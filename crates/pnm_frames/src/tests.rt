@@ -1,5 +1,5 @@
 // Files at the edges of the grammar: what is read of each, and the place of the first fault.
-ghost use Rattle.std.specs.Prelude.{◌≤◌, IsTrue, IfOk};
+ghost use Rattle.std.specs.Prelude.{◌≡◌, ◌≤◌, false, IsTrue, IfOk};
 ghost use Rattle.cine_ports.specs.Source.{Reading};
 
 use super::*;
@@ -100,7 +100,8 @@ const RASTER_FAULTS: &[(&[u8], FrameRefusal)] = &[
 /// which is read by pieces.
 fn begun(alloc: Global, bytes: &[u8], failing: &[u32], piece: u32) -> Result<MemoryFrames, Fail>
     requires { 1 ≤ piece }
-    ensures { IfOk result (λ frames. IsTrue frames.reading.is_begun) }
+    ensures begun { IfOk result (λ frames. IsTrue frames.reading.is_begun) }
+    ensures working { IfOk result (λ frames. frames.has_failed ≡ false) }
 {
     let mut files = Vec::new(alloc);
     files.push(MemoryFrame {

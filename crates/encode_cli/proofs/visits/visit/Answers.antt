@@ -1,13 +1,13 @@
 use Rattle.std.proofs.Common.{◌≡◌, ◌∙◌, Option, Err, [], Ok, option_map, refl, sym, subst}
 use Rattle.std.proofs.lemmas.Result.{err_from_is_err_and}
 use Rattle.cine_ports.specs.Outputs.{Kept}
-use Rattle.cine_ports.specs.Moves.{said_with}
+use Rattle.cine_ports.specs.WholePieces.{said_with}
 use Rattle.pnm_frames.specs.Fault.{Fault, fault_of}
 use Rattle.pnm_frames.specs.Reading.{frame_of}
 use Rattle.pnm_frames.specs.View.{picture_of}
 use Rattle.encode_cli.specs.Put.{kept_and}
 use Rattle.encode_cli.specs.Visit.{accepted, refused, line_of, sizes_2k, BrokenOff}
-use Rattle.encode_cli.proofs.Faults.{fault_told, faulty, none_counted, of_told, stops_too}
+use Rattle.encode_cli.proofs.Faults.{fault_told, faulty, of_told}
 use Rattle.encode_cli.proofs.Puts.{on_err}
 use Rattle.encode_cli.proofs.Told.{is_visit, breaks_at, none_added}
 use Rattle.encode_cli.proofs.visits.visit.Goals as goal
@@ -52,16 +52,6 @@ returns-in_err-refuse-in_default-clause-err g c =
     on_err c.from_residual-in_err-refuse-in_default.result
     (breaks_at (g.F.Frames.source c.args.frames.now).names (g.F.Frames.source c.args.frames.now).files c.args.i visit kept kept said said_now here broken)
 
-pub returns-in_err-refuse-in_default-clause-cause : goal.returns-in_err-refuse-in_default-clause-cause
-returns-in_err-refuse-in_default-clause-cause g c =
-    let p = err_from_is_err_and c.from_residual-in_err-refuse-in_default.result c.from_residual-in_err-refuse-in_default.ensures.1 in
-    let faults = g.F.Frames.faults in
-    let said = g.S.Report.faults in
-    let same = none_counted c.in-Err-read_frame.refusal (faults c.begin.new.self) (faults c.read_frame.new.f) c.in_default.not-Source c.in-Err-read_frame.ensures.cause
-    ∙ c.in-Ok.ensures.cause in
-    rw (p.1, p.2) (stops_too (faults c.args.frames.now) (faults c.read_frame.new.f) (g.O.Outputs.faults c.args.outputs.now) (said c.args.report.now) (said c.refuse.new.report)
-    c.in_err-refuse-in_default.field-0.0 same c.in_err-refuse-in_default.ensures.cause)
-
 pub returns-in_ok-refuse-in_default-clause-ok : goal.returns-in_ok-refuse-in_default-clause-ok
 returns-in_ok-refuse-in_default-clause-ok g c =
     let refusal = c.in-Err-read_frame.refusal in
@@ -76,10 +66,3 @@ returns-in_ok-refuse-in_default-clause-ok g c =
       said = of_told (λ (f : Fault). g.S.Report.said c.refuse.new.report ≡ option_map (said_with (line_of (refused c.name-in_default.result.now f))) (g.S.Report.said c.args.report.now)) (fault_of refusal) told.0 told.1 c.in_ok-refuse-in_default.ensures.said;
       refused = refl;
     }
-
-pub returns-in_ok-refuse-in_default-clause-cause : goal.returns-in_ok-refuse-in_default-clause-cause
-returns-in_ok-refuse-in_default-clause-cause g c =
-    let faults = g.F.Frames.faults in
-    let same = none_counted c.in-Err-read_frame.refusal (faults c.begin.new.self) (faults c.read_frame.new.f) c.in_default.not-Source c.in-Err-read_frame.ensures.cause
-    ∙ c.in-Ok.ensures.cause in
-    (same, refl {a = g.O.Outputs.faults c.args.outputs.now}, c.in_ok-refuse-in_default.ensures.cause.2)

@@ -18,7 +18,7 @@ visit-requires-clause-other_name g c =
     let Fresh : Source → Type 0 = λ s. ForSome (g.O.Outputs.kept c.loop-i.outputs) (λ kept. (name : List ℕ) → slice_get s.names c.loop-i.i ≡ Some name → ¬ Contains (map (λ (file : File). file.name) kept.finished) (output_name name)) in
     let fresh : Fresh (source c.list.new.self) =
     fresh_name (source c.list.new.self).names (source c.args.frames.now).files c.loop-i.i (g.O.Outputs.kept c.args.outputs.now) (g.O.Outputs.kept c.loop-i.outputs) (g.S.Report.said c.args.report.now) (g.S.Report.said c.loop-i.report) c.loop-i.refused
-    c.in-Ok.ensures.lawful c.loop-i.invariant.come in
+    c.in-Ok.ensures.valid c.loop-i.invariant.come in
     subst Fresh (sym c.loop-i.invariant.source) fresh
 
 pub loop-i-preserved : goal.loop-i-preserved
@@ -39,7 +39,7 @@ loop-i-preserved g c =
       come = subst Come (sym c.either-refused.ensures) come;
       source = c.visit.ensures.source ∙ c.loop-i.invariant.source;
       closed = c.in_ok-is_refused.ensures.closed;
-      frames_count = c.in_ok-is_refused.ensures.cause.0 ∙ c.loop-i.invariant.frames_count;
-      outputs_count = c.in_ok-is_refused.ensures.cause.1 ∙ c.loop-i.invariant.outputs_count;
-      report_count = c.in_ok-is_refused.ensures.cause.2 ∙ c.loop-i.invariant.report_count;
+      source_working = c.in_ok-is_refused.ensures.source_failed;
+      outputs_working = c.in_ok-is_refused.ensures.outputs_failed;
+      report_working = c.in_ok-is_refused.ensures.report_failed;
     }

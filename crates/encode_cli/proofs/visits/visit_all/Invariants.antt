@@ -12,7 +12,7 @@ invariant-loop-i g l =
       come : HasCome (source l.initial.frames).names (source l.fn.frames).files l.i (kept l.fn.outputs) (kept l.outputs) (said l.fn.report) (said l.report) l.refused;
       source : source l.frames ≡ source l.initial.frames;
       closed : g.O.Outputs.is_open l.outputs ≡ false;
-      frames_count : g.F.Frames.faults l.frames ≡ g.F.Frames.faults l.fn.frames;
-      outputs_count : g.O.Outputs.faults l.outputs ≡ g.O.Outputs.faults l.fn.outputs;
-      report_count : g.S.Report.faults l.report ≡ g.S.Report.faults l.fn.report;
+      source_working : g.F.Frames.has_failed l.frames ≡ false;
+      outputs_working : g.O.Outputs.has_failed l.outputs ≡ false;
+      report_working : g.S.Report.has_failed l.report ≡ false;
     }

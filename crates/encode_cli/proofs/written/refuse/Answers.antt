@@ -1,6 +1,6 @@
 use Rattle.std.proofs.Common.{◌∙◌, ap, option_map}
 use Rattle.std.proofs.lemmas.Option.{IfSome_then}
-use Rattle.cine_ports.specs.Moves.{said_with}
+use Rattle.cine_ports.specs.WholePieces.{said_with}
 use Rattle.pnm_frames.specs.Fault.{fault_of}
 use Rattle.encode_cli.proofs.Breaks.{refuse_broken}
 use Rattle.encode_cli.proofs.written.refuse.Goals as goal

@@ -1,5 +1,5 @@
 use Rattle.std.proofs.Common.{◌≡◌, ◌∙◌, ap, option_map}
-use Rattle.cine_ports.specs.Moves.{said_with}
+use Rattle.cine_ports.specs.WholePieces.{said_with}
 use Rattle.encode_cli.specs.Line.{ok_line}
 use Rattle.pnm_frames.specs.View.{picture_of}
 use Rattle.encode_cli.specs.Visit.{line_of, accepted}

@@ -42,5 +42,5 @@ loop-b-preserved g c = record {
   place = omega (arith, c.in_ok-b.ensures.at, c.in_ok-b.ensures.room);
   worth = omega (arith, c.with_digit-n.ensures);
   keeps = keeps-then _ _ _ _ _ _ c.loop-b.invariant.keeps c.read_header_byte.ensures.keeps;
-  faults = c.in_ok-b.ensures.cause ∙ c.loop-b.invariant.faults;
+  working = c.in_ok-b.ensures.failed;
 }

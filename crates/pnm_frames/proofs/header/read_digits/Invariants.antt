@@ -1,4 +1,4 @@
-use Rattle.std.proofs.Common.{◌≡◌, ◌≤◌, ◌-◌, ◌^◌, IsSome}
+use Rattle.std.proofs.Common.{◌≡◌, false, ◌≤◌, ◌-◌, ◌^◌, IsSome}
 use Rattle.pnm_frames.specs.Keeps.{ReadsOn}
 use Rattle.pnm_frames.specs.Reading.{capped, digits_at}
 use Rattle.pnm_frames.proofs.header.read_digits.Given as goal
@@ -11,7 +11,7 @@ invariant-loop-b g l = record {
   place : l.at ≤ 4096;
   worth : l.n ≤ 2 ^ 32;
   keeps : ReadsOn (g.F.Frames.source l.fn.f) (g.F.Frames.source l.f) (g.F.Frames.reading l.fn.f) (g.F.Frames.reading l.f);
-  faults : g.F.Frames.faults l.f ≡ g.F.Frames.faults l.fn.f;
+  working : g.F.Frames.has_failed l.f ≡ false;
 }
 
 abbrev pub decreases-loop-b : goal.decreases-loop-b

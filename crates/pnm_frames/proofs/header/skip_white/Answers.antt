@@ -31,5 +31,5 @@ loop-b-preserved g c = record {
       (sym c.is_white.ensures ∙ c.if-not-is_white.false);
   place = omega (arith, c.in_ok-b.ensures.at, c.in_ok-b.ensures.room);
   keeps = keeps-then _ _ _ _ _ _ c.loop-b.invariant.keeps c.read_header_byte.ensures.keeps;
-  faults = c.in_ok-b.ensures.cause ∙ c.loop-b.invariant.faults;
+  working = c.in_ok-b.ensures.failed;
 }

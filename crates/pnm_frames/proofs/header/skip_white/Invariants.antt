@@ -1,4 +1,4 @@
-use Rattle.std.proofs.Common.{◌≡◌, ◌≤◌, ◌-◌, IsSome}
+use Rattle.std.proofs.Common.{◌≡◌, false, ◌≤◌, ◌-◌, IsSome}
 use Rattle.pnm_frames.specs.Keeps.{ReadsOn}
 use Rattle.pnm_frames.specs.Reading.{white_at}
 use Rattle.pnm_frames.proofs.header.skip_white.Given as goal
@@ -10,7 +10,7 @@ invariant-loop-b g l = record {
       white_at l.fn.at (g.F.Frames.reading l.fn.f).left ≡ white_at l.at (g.F.Frames.reading l.f).left;
   place : l.at ≤ 4096;
   keeps : ReadsOn (g.F.Frames.source l.fn.f) (g.F.Frames.source l.f) (g.F.Frames.reading l.fn.f) (g.F.Frames.reading l.f);
-  faults : g.F.Frames.faults l.f ≡ g.F.Frames.faults l.fn.f;
+  working : g.F.Frames.has_failed l.f ≡ false;
 }
 
 abbrev pub decreases-loop-b : goal.decreases-loop-b

@@ -58,7 +58,7 @@ loop-preserved g c =
       place = omega (arith, kept.place);
       here = omega (arith, kept.here, c.in_ok-read_row.ensures.at);
       keeps = keeps-then _ _ _ _ _ _ kept.keeps c.read_row.ensures.keeps;
-      faults = c.in_ok-read_row.ensures.cause ∙ kept.faults;
+      working = c.in_ok-read_row.ensures.failed;
     }
 
 pub returns-clause-x_range : goal.returns-clause-x_range

@@ -1,4 +1,4 @@
-use Rattle.std.proofs.Common.{◌≡◌, ◌*◌, ◌+◌, ◌++◌, IsSome, All, take}
+use Rattle.std.proofs.Common.{◌≡◌, false, ◌*◌, ◌+◌, ◌++◌, IsSome, All, take}
 use Rattle.std.specs.List.{flat_map}
 use Rattle.pnm_frames.specs.Keeps.{ReadsOn}
 use Rattle.pnm_frames.specs.Picture.{IsSample, interleaved, sample}
@@ -13,5 +13,5 @@ invariant-loop g l = record {
   place : l.start ≡ l.width * l.counter;
   here : l.at ≡ l.fn.header.bytes + 6 * l.start;
   keeps : ReadsOn (g.F.Frames.source l.fn.f) (g.F.Frames.source l.f) (g.F.Frames.reading l.fn.f) (g.F.Frames.reading l.f);
-  faults : g.F.Frames.faults l.f ≡ g.F.Frames.faults l.fn.f;
+  working : g.F.Frames.has_failed l.f ≡ false;
 }

@@ -1,5 +1,5 @@
-use Rattle.std.proofs.Common.{◌≡◌, ◌-◌, ◌≤◌, ◌++◌, length, take, IsTrue, IsSome}
-use Rattle.cine_ports.proofs.moves.read_fully.Given as goal
+use Rattle.std.proofs.Common.{◌≡◌, false, ◌-◌, ◌≤◌, ◌++◌, length, take, IsTrue, IsSome}
+use Rattle.cine_ports.proofs.whole_pieces.read_fully.Given as goal
 
 -- the first bytes of the buffer are those that left the frame
 abbrev pub invariant-loop-done : goal.invariant-loop-done
@@ -10,7 +10,7 @@ invariant-loop-done g l =
     × IsTrue (g.F.Frames.reading l.frames).is_begun
     × ((g.F.Frames.reading l.frames).asked ≡ (g.F.Frames.reading l.fn.frames).asked)
     × (g.F.Frames.source l.frames ≡ g.F.Frames.source l.fn.frames)
-    × (g.F.Frames.faults l.frames ≡ g.F.Frames.faults l.fn.frames)
+    × (g.F.Frames.has_failed l.frames ≡ false)
 
 abbrev pub decreases-loop-done : goal.decreases-loop-done
 decreases-loop-done g l = length l.initial.buf - l.done

@@ -1,28 +1,29 @@
 // Whole pieces through ports that move a part at a time.
-ghost use Rattle.std.specs.Prelude.{[], ◌≡◌, ◌<◌, ◌≤◌, ◌++◌, ℕ, length, take, option_map, IsTrue, IsSome, IfOk, OnOk, OnErr};
-ghost use Rattle.cine_ports.specs.Cause.{HasCause, HasFaultCause};
+ghost use Rattle.std.specs.Prelude.{[], false, is_err, ◌≡◌, ◌<◌, ◌≤◌, ◌++◌, ℕ, length, take, option_map, IsTrue, IsSome, IfOk, OnOk, OnErr};
+ghost use Rattle.cine_ports.specs.Failure.{is_failed};
 ghost use Rattle.cine_ports.specs.Outputs.{with_more};
-ghost use Rattle.cine_ports.specs.Moves.{IsEndOf, HasSomeOf, HasSomeBytesOf, said_with};
+ghost use Rattle.cine_ports.specs.WholePieces.{IsSuffixOf, WroteProperPrefix, SaidProperPrefix, said_with};
 
 use crate::{Failed, Frames, Outputs, PortFault, Report};
 
-/// Reads the begun frame until the buffer is full or the frame ends, and answers how many bytes.
+/// Reads the begun frame until the buffer is full or the frame ends, and returns how many bytes.
 ///
-/// The count is below the buffer's length only where the frame has ended. The call fails only where
-/// a read failed; the buffer may hold anything then, and what is left is an end of what was left.
+/// The count is below the buffer's length only if the frame has ended. The call fails exactly if a
+/// read failed; the buffer may hold anything then, and what is left is a suffix of what was left.
 pub fn read_fully<F: Frames>(frames: &mut F, buf: &mut [u8]) -> Result<usize, Failed>
-    requires { IsTrue (F.reading frames.old).is_begun }
+    requires working { F.has_failed frames.old ≡ false }
+    requires begun { IsTrue (F.reading frames.old).is_begun }
     ensures count { IfOk result (λ n. n ≤ length buf.new) }
     ensures moved { IfOk result (λ n. IsSome (F.source frames.old).files →
         (F.reading frames.old).left ≡ take n buf.new ++ (F.reading frames.new).left) }
     ensures end { IfOk result (λ n. IsSome (F.source frames.old).files →
         n < length buf.new → (F.reading frames.new).left ≡ []) }
     ensures err { OnErr result (IsSome (F.source frames.old).files →
-        IsEndOf (F.reading frames.new).left (F.reading frames.old).left) }
+        IsSuffixOf (F.reading frames.new).left (F.reading frames.old).left) }
     ensures begun { IsTrue (F.reading frames.new).is_begun }
     ensures asked { (F.reading frames.new).asked ≡ (F.reading frames.old).asked }
     ensures source { F.source frames.new ≡ F.source frames.old }
-    ensures cause { HasFaultCause (F.faults frames.old) (F.faults frames.new) result }
+    ensures failed { F.has_failed frames.new ≡ is_err result }
 {
     let mut done = 0;
     while done < buf.len() {
@@ -37,14 +38,15 @@ pub fn read_fully<F: Frames>(frames: &mut F, buf: &mut [u8]) -> Result<usize, Fa
 
 /// Appends a whole piece to the unfinished file.
 ///
-/// The call is refused only where a write was; a proper prefix of the piece was appended then.
+/// The call fails exactly if a write failed. After an error a proper prefix of the piece is appended.
 pub fn write_all<O: Outputs>(outputs: &mut O, piece: &[u8]) -> Result<(), PortFault>
-    requires { IsTrue (O.is_open outputs.old) }
+    requires working { O.has_failed outputs.old ≡ false }
+    requires open { IsTrue (O.is_open outputs.old) }
     ensures ok { OnOk result
         (O.kept outputs.new ≡ option_map (with_more piece.now) (O.kept outputs.old)) }
-    ensures err { OnErr result (HasSomeOf piece.now (O.kept outputs.old) (O.kept outputs.new)) }
+    ensures err { OnErr result (WroteProperPrefix piece.now (O.kept outputs.old) (O.kept outputs.new)) }
     ensures open { IsTrue (O.is_open outputs.new) }
-    ensures cause { HasCause (O.faults outputs.old) (O.faults outputs.new) result }
+    ensures failed { O.has_failed outputs.new ≡ is_failed result }
 {
     let mut done = 0;
     while done < piece.len() {
@@ -55,12 +57,13 @@ pub fn write_all<O: Outputs>(outputs: &mut O, piece: &[u8]) -> Result<(), PortFa
 
 /// Appends a whole piece to a report.
 ///
-/// The call is refused only where a write was; a proper prefix of the piece was appended then.
+/// The call fails exactly if a write failed. After an error a proper prefix of the piece is appended.
 pub fn say<S: Report>(report: &mut S, piece: &[u8]) -> Result<(), PortFault>
+    requires { S.has_failed report.old ≡ false }
     ensures ok { OnOk result
         (S.said report.new ≡ option_map (said_with piece.now) (S.said report.old)) }
-    ensures err { OnErr result (HasSomeBytesOf piece.now (S.said report.old) (S.said report.new)) }
-    ensures cause { HasCause (S.faults report.old) (S.faults report.new) result }
+    ensures err { OnErr result (SaidProperPrefix piece.now (S.said report.old) (S.said report.new)) }
+    ensures failed { S.has_failed report.new ≡ is_failed result }
 {
     let mut done = 0;
     while done < piece.len() {

@@ -1,6 +1,6 @@
 // Files in memory that are read one after the other.
 ghost use Rattle.std.specs.Prelude.{[], ◌≡◌, ◌+◌, ◌++◌, ◌<◌, ◌≤◌, true, false, drop, length, map, min, take, slice_get, slice_index_or, IsTrue};
-ghost use Rattle.cine_ports.specs.Memory.{bytes_at, names_listed, told_source, told_reading};
+ghost use Rattle.cine_ports.specs.Memory.{bytes_at, names_listed, known_source, known_reading};
 ghost use Rattle.cine_ports.specs.Names.{IsNameList};
 ghost use Rattle.cine_ports.specs.Source.{IsUnlisted};
 
@@ -8,21 +8,21 @@ use crate::MemoryFrame;
 
 /// Files in memory, and where the reading of them stands.
 #[derive(Debug, Drop)]
-pub(crate) struct Shelf {
+pub(crate) struct MemorySource {
     files: Vec<MemoryFrame>,
     is_listed: bool,
     asked: u32,
     is_begun: bool,
     at: usize,
     ghost in_order: { IsNameList (map (λ file. file.name) files.items) },
-    ghost unlisted: { IsUnlisted (told_source files.items is_listed)
-        (told_reading files.items asked is_begun at) },
+    ghost unlisted: { IsUnlisted (known_source files.items is_listed)
+        (known_reading files.items asked is_begun at) },
     ghost in_list: { IsTrue is_begun → asked < length files.items },
     ghost in_file: { IsTrue is_begun → at ≤ length (bytes_at files.items asked) },
 }
 
-impl Shelf {
-    pub(crate) fn new(files: Vec<MemoryFrame>) -> Shelf
+impl MemorySource {
+    pub(crate) fn new(files: Vec<MemoryFrame>) -> MemorySource
         requires { IsNameList (map (λ file. file.name) files.items) }
         ensures files { result.files ≡ files }
         ensures listed { result.is_listed ≡ false }
@@ -30,7 +30,7 @@ impl Shelf {
         ensures begun { result.is_begun ≡ false }
         ensures at { result.at ≡ 0 }
     {
-        Shelf {
+        MemorySource {
             files,
             is_listed: false,
             asked: 0,
@@ -80,7 +80,7 @@ impl Shelf {
         self.at = 0;
     }
 
-    /// Moves bytes from the front of what is left of the begun file into the buffer.
+    /// Moves the first bytes of what is left of the begun file into the buffer, and returns how many.
     pub(crate) fn read(&mut self, buf: &mut [u8]) -> usize
         requires { IsTrue self.old.is_begun }
         ensures count { result ≡ min (length (drop self.old.at (bytes_at self.old.files.items self.old.asked))) (length buf.old) }
@@ -93,14 +93,14 @@ impl Shelf {
         ensures begun { self.new.is_begun ≡ self.old.is_begun }
     {
         let bytes = self.files[self.asked as usize].bytes();
-        let n = copy_front(&bytes[self.at..], buf);
+        let n = copy_prefix(&bytes[self.at..], buf);
         self.at += n;
         n
     }
 }
 
-/// Copies the front of one slice into the front of another, as much as fits, and answers how much.
-fn copy_front(from: &[u8], to: &mut [u8]) -> usize
+/// Copies the first items of one slice over the first of another, as many as fit, and returns how many.
+fn copy_prefix(from: &[u8], to: &mut [u8]) -> usize
     ensures count { result ≡ min (length from.now) (length to.old) }
     ensures moved { take result to.new ≡ take result from.now }
     ensures len { length to.new ≡ length to.old }

@@ -1,6 +1,6 @@
 use Rattle.std.proofs.Common.{◌∙◌, ap, take, ◌++◌, subst, IsSome, sym}
 use Rattle.cine_ports.proofs.Appends.{read-step, read-within}
-use Rattle.cine_ports.proofs.moves.read_fully.Goals as goal
+use Rattle.cine_ports.proofs.whole_pieces.read_fully.Goals as goal
 
 pub loop-done-preserved : goal.loop-done-preserved
 loop-done-preserved g c =
@@ -18,5 +18,5 @@ loop-done-preserved g c =
       ensured.begun,
       ensured.asked ∙ kept.3,
       ensured.source ∙ kept.4,
-      ensured.cause ∙ kept.5,
+      ensured.failed,
     )
