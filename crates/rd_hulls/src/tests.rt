@@ -71,7 +71,7 @@ fn has_room_for_58_steps(rt: HostRuntime) {
     let steps = hull(0, &points);
     assert_eq!(rt; steps.len(), 58);
     for (step, from) in steps.as_slice().iter().zip(0..58u8) {
-        let gain = 115 - 2 * u128::from(from);
+        let gain = 115u128.saturating_sub(2 * u128::from(from));
         assert_eq!(rt;
             (step.from, step.to, step.len, step.gain),
             (from, from + 1, 1, gain)

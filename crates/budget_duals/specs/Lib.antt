@@ -1,0 +1,4 @@
+pub mod Certificate
+pub mod Held
+pub mod Members
+pub mod Price
