@@ -1,3 +1,4 @@
+pub mod BlockLemmas
 pub mod MemberLemmas
 pub mod SortedLemmas
 pub mod SortingLemmas

@@ -42,7 +42,7 @@ pub some_side : (r : ℕ) → 0 < precinct_side r
 some_side zero = omega arith
 some_side (suc r) = omega arith
 
-begins_within : (levels side r p : ℕ) → p < precinct_count levels side r →
+pub begins_within : (levels side r p : ℕ) → p < precinct_count levels side r →
     place_of levels r p < side
 begins_within levels side r p below =
     begins (p * precinct_side r) side (2 ^ (levels - r)) (pow_pos (levels - r))
@@ -71,7 +71,7 @@ all_pieces {A} P f (suc n) each =
     (All-append P (flat_map f (range_with_len 0 n)) (f n)
     (all_pieces P f n (λ i below. each i (omega (arith, below)))) (each n (omega arith)))
 
-has_piece : {A : Type 0} (f : ℕ → List A) (n i : ℕ) (a : A) → i < n → Contains (f i) a →
+pub has_piece : {A : Type 0} (f : ℕ → List A) (n i : ℕ) (a : A) → i < n → Contains (f i) a →
     Contains (flat_map f (range_with_len 0 n)) a
 has_piece f zero i a below here = absurd (omega arith)
 has_piece {A} f (suc n) i a below here =
@@ -91,7 +91,7 @@ all_mapped P f n each =
     let inside : k < n = omega (arith, below, length-range_with_len 0 n) in
     subst (λ i. P (f i)) (sym (get_or-range_with_len 0 n k d inside ∙ zero-add k)) (each k inside))
 
-has_mapped : {A : Type 0} (f : ℕ → A) (n i : ℕ) → i < n →
+pub has_mapped : {A : Type 0} (f : ℕ → A) (n i : ℕ) → i < n →
     Contains (map f (range_with_len 0 n)) (f i)
 has_mapped f n i below = (
   i,

@@ -42,7 +42,7 @@ other_pairs : {A : Type 0} (R : A → A → Type 0) (x : A) (xs : List A) → Al
 other_pairs R x xs pairs i j d less below =
     pairs (suc i) (suc j) d (omega (arith, less)) (omega (arith, below))
 
-no_pairs : {A : Type 0} (R : A → A → Type 0) → AllPairs R []
+pub no_pairs : {A : Type 0} (R : A → A → Type 0) → AllPairs R []
 no_pairs R i j d less below = absurd (omega (arith, below))
 
 -- Insertion.
@@ -93,7 +93,7 @@ strict_all {A} before order sorted (x ∷ xs) pairs differ across =
 
 -- Lists that are joined of pieces.
 
-pairs_append : {A : Type 0} (R : A → A → Type 0) (xs ys : List A) → AllPairs R xs → AllPairs R ys →
+pub pairs_append : {A : Type 0} (R : A → A → Type 0) (xs ys : List A) → AllPairs R xs → AllPairs R ys →
     All (λ x. All (R x) ys) xs → AllPairs R (xs ++ ys)
 pairs_append R [] ys left right across = right
 pairs_append R (x ∷ xs) ys left right across =
@@ -102,7 +102,7 @@ pairs_append R (x ∷ xs) ys left right across =
     (pairs_append R xs ys (other_pairs R x xs left) right
     (All-tail (λ z. All (R z) ys) x xs across))
 
-pairs_pieces : {A : Type 0} (R : A → A → Type 0) (P : ℕ → A → Type 0) (f : ℕ → List A) (n : ℕ) →
+pub pairs_pieces : {A : Type 0} (R : A → A → Type 0) (P : ℕ → A → Type 0) (f : ℕ → List A) (n : ℕ) →
     ((i : ℕ) → i < n → AllPairs R (f i)) → ((i : ℕ) → i < n → All (P i) (f i)) →
     ((i j : ℕ) (a b : A) → i < j → P i a → P j b → R a b) →
     AllPairs R (flat_map f (range_with_len 0 n))
@@ -117,7 +117,7 @@ pairs_pieces {A} R P f (suc n) inner each across =
     across i n (get_or (f i) k d) (get_or (f n) m e) below
     (each i (omega (arith, below)) k d inside) (each n (omega arith) m e within))))
 
-pairs_mapped : {A : Type 0} (R : A → A → Type 0) (f : ℕ → A) (n : ℕ) →
+pub pairs_mapped : {A : Type 0} (R : A → A → Type 0) (f : ℕ → A) (n : ℕ) →
     ((i j : ℕ) → i < j → j < n → R (f i) (f j)) → AllPairs R (map f (range_with_len 0 n))
 pairs_mapped R f n each i j d less below =
     let inside : j < n = omega (arith, below, length-map-range_with_len f 0 n) in

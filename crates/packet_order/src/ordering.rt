@@ -201,4 +201,25 @@ mod tests {
         );
         Ok(())
     }
+
+    // Five resolutions of 40, 12, 4, 1, 1 and 1 precincts, and one of 144. The last precinct of
+    // resolution 5 begins at the place (3584, 2048), that of resolution 6 at (3840, 2048).
+    #[test]
+    fn packets_of_a_whole_4k_frame(rt: HostRuntime) -> Result<(), Fail> {
+        let geometry = Geometry::new(Profile::FourK, 6, 4096, 2160);
+        for (part, count, component, res, px, py) in [(0, 59, 0, 5, 7, 4), (4, 144, 1, 6, 15, 8)] {
+            let packets = order(rt.alloc(), &geometry, part)?;
+            assert_eq!(rt; packets.len(), count);
+            assert_eq!(rt;
+                packets[packets.len() - 1],
+                PacketId {
+                    component,
+                    res,
+                    px,
+                    py
+                }
+            );
+        }
+        Ok(())
+    }
 }
