@@ -43,7 +43,8 @@ record IsWithin (p c i : ℕ) : Type 0 where
 within : (p c i : ℕ) → i < min (4 * p + 4) c - min (4 * p) c → IsWithin p c i
 within p c i below = record { high = omega arith; inside = omega arith }
 
-block_in : (g : Geometry) (p : PacketId) (o : Orient) (i j : ℕ) → p.component < 3 → HasBand g p.res o →
+block_in : (g : Geometry) (p : PacketId) (o : Orient) (i j : ℕ) → p.component < 3 →
+    HasBand g p.res o →
     IsWithin p.px (block_columns g p.res o) i → IsWithin p.py (block_rows g p.res o) j →
     IsBlockIn g p o (block_at p o (min (4 * p.py) (block_rows g p.res o) + j)
     (min (4 * p.px) (block_columns g p.res o) + i))
@@ -138,7 +139,8 @@ pub has_block : (g : Geometry) (b : BlockId) → IsBlock g b →
     Contains (blocks_of_packet g (packet_of_block b)) b
 unfolding blocks_of_packet
 has_block g b is =
-    has_in_bands (blocks_in g (packet_of_block b)) b.res b.orient b is.band.orient (has_in_band g b is)
+    has_in_bands (blocks_in g (packet_of_block b)) b.res b.orient b is.band.orient
+    (has_in_band g b is)
 
 -- and the packet is one of the tile-part that holds the block's resolution
 pub has_packet : (g : Geometry) (b : BlockId) → IsBlock g b →
@@ -163,8 +165,10 @@ length_pieces f (suc n) c each =
     ∙ omega (arith, length_pieces f n c each, each n)
 
 pub band_count : (g : Geometry) (p : PacketId) (o : Orient) (rows columns : ℕ) →
-    rows ≡ (precinct_blocks_of g p.res o p.px p.py).y1 - (precinct_blocks_of g p.res o p.px p.py).y0 →
-    columns ≡ (precinct_blocks_of g p.res o p.px p.py).x1 - (precinct_blocks_of g p.res o p.px p.py).x0 →
+    rows ≡ (precinct_blocks_of g p.res o p.px p.py).y1 -
+    (precinct_blocks_of g p.res o p.px p.py).y0 →
+    columns ≡ (precinct_blocks_of g p.res o p.px p.py).x1 -
+    (precinct_blocks_of g p.res o p.px p.py).x0 →
     length (blocks_in g p o) ≡ rows * columns
 unfolding blocks_in
 band_count g p o rows columns down across =
@@ -196,7 +200,8 @@ band_differs g p o =
 -- lists of one band each
 across : {A : Type 0} (P Q : A → Type 0) (R : A → A → Type 0) (xs ys : List A) →
     ((a b : A) → P a → Q b → R a b) → All P xs → All Q ys → All (λ x. All (R x) ys) xs
-across P Q R xs ys each here there k d below m e inside = each _ _ (here k d below) (there m e inside)
+across P Q R xs ys each here there k d below m e inside =
+    each _ _ (here k d below) (there m e inside)
 
 abbrev IsOf : Orient → BlockId → Type 0
 IsOf o b = b.orient ≡ o
@@ -212,7 +217,8 @@ bands_differ : (hl lh hh : List BlockId) → AllPairs Differ hl → AllPairs Dif
     AllPairs Differ (hl ++ (lh ++ (hh ++ [])))
 bands_differ hl lh hh hl_pairs lh_pairs hh_pairs of_hl of_lh of_hh =
     let none : All (λ x. All (Differ x) []) hh = λ k d below. All-nil (Differ (get_or hh k d)) in
-    let last : AllPairs Differ (hh ++ []) = pairs_append Differ hh [] hh_pairs (no_pairs Differ) none in
+    let last : AllPairs Differ (hh ++ []) =
+    pairs_append Differ hh [] hh_pairs (no_pairs Differ) none in
     let of_last : All (IsOf HH) (hh ++ []) = All-append (IsOf HH) hh [] of_hh (All-nil (IsOf HH)) in
     let two : AllPairs Differ (lh ++ (hh ++ [])) =
     pairs_append Differ lh (hh ++ []) lh_pairs last

@@ -93,7 +93,8 @@ strict_all {A} before order sorted (x ∷ xs) pairs differ across =
 
 -- Lists that are joined of pieces.
 
-pub pairs_append : {A : Type 0} (R : A → A → Type 0) (xs ys : List A) → AllPairs R xs → AllPairs R ys →
+pub pairs_append : {A : Type 0} (R : A → A → Type 0) (xs ys : List A) → AllPairs R xs →
+    AllPairs R ys →
     All (λ x. All (R x) ys) xs → AllPairs R (xs ++ ys)
 pairs_append R [] ys left right across = right
 pairs_append R (x ∷ xs) ys left right across =

@@ -15,8 +15,8 @@ ghost use Rattle.packet_order.specs.declared.packet.PacketId.{PacketId};
 /// Each code block is in exactly one packet of one tile-part, and stands there once: a packet's
 /// blocks are those of its precinct (`in_band`, `in_packet`), each block is in the packet of its
 /// precinct (`has_block`), which is one of the tile-part that holds the block's resolution
-/// (`has_packet`), and no block stands in a packet twice (`apart`). A packet has as many blocks of a
-/// band as its range has places (`count`) (ISO/IEC 15444-1, B.6, B.7 and B.9).
+/// (`has_packet`), and no block stands in a packet twice (`apart`). A packet has as many blocks of
+/// a band as its range has places (`count`) (ISO/IEC 15444-1, B.6, B.7 and B.9).
 pub fn blocks()
     ensures in_band { (g : Geometry) (p : PacketId) (o : Orient) → p.component < 3 →
         HasBand g p.res o → All (IsBlockIn g p o) (blocks_in g p o) }

@@ -4,8 +4,8 @@
 //! `order` returns the list of all precincts of the tile-part, sorted by the place of their upper
 //! left corner on the reference grid, row first, and where places are equal by the resolution. Its
 //! clauses say so twice: as a sorted list, and with no list and no sorting (each precinct that
-//! begins within the frame is there, nothing else is, and each comes before all later ones). The law
-//! `blocks` says that each code block is in exactly one of these packets.
+//! begins within the frame is there, nothing else is, and each comes before all later ones). The
+//! law `blocks` says that each code block is in exactly one of these packets.
 //!
 //! ```
 //! let geometry = Geometry::new(Profile::TwoK, 5, 1, 1);

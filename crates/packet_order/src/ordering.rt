@@ -24,13 +24,16 @@ use std::alloc::{AllocError, Global};
 pub fn order(alloc: Global, geometry: &Geometry, part: u8) -> Result<Vec<PacketId>, AllocError>
     requires { part < parts_of geometry.now.profile }
     ensures value { IfOk result (λ packets. packets.items ≡ ordered_packets geometry.now part) }
-    ensures members { IfOk result (λ packets. IsPermutation (packets_of_part geometry.now part) packets.items) }
+    ensures members { IfOk result (λ packets. IsPermutation
+        (packets_of_part geometry.now part) packets.items) }
     // Each precinct of the tile-part that begins within the frame has its packet there, and nothing
     // else is there.
     ensures each { IfOk result (λ packets. All (IsPacketOf geometry.now part) packets.items) }
-    ensures whole { IfOk result (λ packets. (p : PacketId) → IsPacketOf geometry.now part p → Contains packets.items p) }
+    ensures whole { IfOk result (λ packets. (p : PacketId) → IsPacketOf geometry.now part p →
+        Contains packets.items p) }
     // Each comes before all later ones, so that none stands there twice.
-    ensures sorted { IfOk result (λ packets. AllPairs (λ a b. comes_before geometry.now a b ≡ true) packets.items) }
+    ensures sorted { IfOk result (λ packets. AllPairs
+        (λ a b. comes_before geometry.now a b ≡ true) packets.items) }
 {
     let mut packets = Vec::new(alloc);
     for component in 0..3 {
@@ -47,7 +50,8 @@ fn add_component(
     component: u8,
 ) -> Result<(), AllocError>
     requires { component < 3 }
-    ensures { OnOk result (packets.new.items ≡ insert_all (comes_before geometry.now) packets.old.items
+    ensures { OnOk result (packets.new.items
+        ≡ insert_all (comes_before geometry.now) packets.old.items
         (packets_of_component geometry.now part component)) }
 {
     for res in 0..geometry.levels + 1 {
@@ -66,7 +70,8 @@ fn add_res_of_part(
 ) -> Result<(), AllocError>
     requires component { component < 3 }
     requires res { res ≤ geometry.now.levels }
-    ensures { OnOk result (packets.new.items ≡ insert_all (comes_before geometry.now) packets.old.items
+    ensures { OnOk result (packets.new.items
+        ≡ insert_all (comes_before geometry.now) packets.old.items
         (packets_of_res_in geometry.now part component res)) }
 {
     if geometry.part_at(component, res) == part {
@@ -83,7 +88,8 @@ fn add_res(
     res: u8,
 ) -> Result<(), AllocError>
     requires { res ≤ geometry.now.levels }
-    ensures { OnOk result (packets.new.items ≡ insert_all (comes_before geometry.now) packets.old.items
+    ensures { OnOk result (packets.new.items
+        ≡ insert_all (comes_before geometry.now) packets.old.items
         (packets_of_res geometry.now component res)) }
 {
     let (across, down) = geometry.precincts(res);
@@ -107,7 +113,8 @@ fn add_row(
     across: u32,
 ) -> Result<(), AllocError>
     requires { across ≡ precinct_count geometry.now.levels geometry.now.width first.res }
-    ensures { OnOk result (packets.new.items ≡ insert_all (comes_before geometry.now) packets.old.items
+    ensures { OnOk result (packets.new.items
+        ≡ insert_all (comes_before geometry.now) packets.old.items
         (packets_of_row geometry.now first.component first.res first.py)) }
 {
     for px in 0..across {
@@ -121,7 +128,8 @@ fn add_row(
 /// Where a packet has to stand among packets that are sorted.
 fn place_among(packets: &[PacketId], geometry: &Geometry, id: PacketId) -> usize
     ensures within { result ≤ length packets.now }
-    ensures place { insert packets.now result id ≡ insert_by (comes_before geometry.now) id packets.now }
+    ensures place { insert packets.now result id
+        ≡ insert_by (comes_before geometry.now) id packets.now }
 {
     for (i, other) in packets.iter().enumerate() {
         if comes_first(geometry, id, *other) {
