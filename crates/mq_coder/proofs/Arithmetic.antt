@@ -1,5 +1,6 @@
 -- Powers of two and quotients, over free numbers.
-use Rattle.std.proofs.Common.{◌≡◌, ℕ, ◌+◌, ◌-◌, ◌*◌, ◌/◌, ◌^◌, ◌<◌, ◌≤◌, ap, ◌∙◌, arith, suc, inl, inr}
+use Rattle.std.proofs.Common.{◌≡◌, ℕ, ◌+◌, ◌-◌, ◌*◌, ◌/◌, ◌^◌, ◌<◌, ◌≤◌, ap, ◌∙◌, arith, suc, inl}
+use Rattle.std.proofs.Common.{inr}
 use Rattle.std.proofs.lemmas.Bool.{cases_lt}
 use Rattle.std.proofs.lemmas.Nat.{pow-add, le-div, div_below}
 use Rattle.std.proofs.Math.Nat.{mul-le-mul_left, mul-le-mul_right, div-mul-le_self}
@@ -21,7 +22,7 @@ quotient n q m pos low high =
     let above : m ≤ n / q = le-div m n q pos low in
     omega arith
 
--- ones behind ones
+-- ones after ones
 pub ones_div : (m q : ℕ) → 1 ≤ m → 0 < q → (m * q - 1) / q ≡ m - 1
 ones_div m q one pos =
     let more : m - 1 + 1 ≡ m = omega arith in
@@ -43,7 +44,8 @@ pub shift_up : (x q j : ℕ) → x / q * (q * j) ≤ x * j
 shift_up x q j = regroup_up x (x / q) q j (div-mul-le_self x q)
 
 -- a whole number of units that bytes and rest reach is reached by the bytes
-pub reach : (b s l p t n r : ℕ) → 0 < p → 0 < r → b * s ≤ l * p → l * t < (n + 1) * 2 ^ 27 → s * t ≡ p * r * 2 ^ 27 → b ≤ n / r
+pub reach : (b s l p t n r : ℕ) → 0 < p → 0 < r → b * s ≤ l * p → l * t < (n + 1) * 2 ^ 27 →
+    s * t ≡ p * r * 2 ^ 27 → b ≤ n / r
 reach b s l p t n r pos pos' low high scale =
     let h1 : b * s * t ≤ l * p * t = mul-le-mul_right t low in
     let h2 : suc (l * t) * p ≤ (n + 1) * 2 ^ 27 * p = mul-le-mul_right p high in
@@ -53,7 +55,8 @@ reach b s l p t n r pos pos' low high scale =
     le-div b n r pos' (omega arith)
 
 -- what the last bytes of an ending are
-pub last_units : (f t n rest m g : ℕ) → 0 < t → 0 < g → f * t ≡ n * 2 ^ 27 + rest → rest < 2 ^ 27 → t * g ≡ 2 ^ 27 → f + 1 ≡ m * g → f + 1 ≡ (n + 1) * g
+pub last_units : (f t n rest m g : ℕ) → 0 < t → 0 < g → f * t ≡ n * 2 ^ 27 + rest → rest < 2 ^ 27 →
+    t * g ≡ 2 ^ 27 → f + 1 ≡ m * g → f + 1 ≡ (n + 1) * g
 last_units f t n rest m g pos pos' whole small scale units =
     let h1 : (f + 1) * t ≡ m * g * t = ap (λ x. x * t) units in
     let h2 : m * (t * g) ≡ m * 2 ^ 27 = ap (λ x. m * x) scale in
@@ -61,7 +64,8 @@ last_units f t n rest m g pos pos' whole small scale units =
     let h4 : m ≡ n + 1 = omega arith in
     units ∙ ap (λ x. x * g) h4
 
-pub above_ones : (b s f p n g h : ℕ) → 0 < p → b * s ≤ f * p → f + 1 ≡ (n + 1) * g → h * s ≡ p * g → b + 1 ≤ (n + 1) * h
+pub above_ones : (b s f p n g h : ℕ) → 0 < p → b * s ≤ f * p → f + 1 ≡ (n + 1) * g → h * s ≡ p * g →
+    b + 1 ≤ (n + 1) * h
 above_ones b s f p n g h pos low units scale =
     let h1 : (f + 1) * p ≡ (n + 1) * g * p = ap (λ x. x * p) units in
     let h2 : (n + 1) * (h * s) ≡ (n + 1) * (p * g) = ap (λ x. (n + 1) * x) scale in

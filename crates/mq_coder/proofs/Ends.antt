@@ -1,5 +1,6 @@
 -- A last byte FF gives the ones that follow a string anyway.
-use Rattle.std.proofs.Common.{◌≡◌, ℕ, ◌+◌, ◌-◌, ◌*◌, ◌/◌, ◌^◌, ◌<◌, Bool, true, false, eqb, List, [], ◌∷◌, ◌++◌, refl, sym, ap, ◌∙◌, arith}
+use Rattle.std.proofs.Common.{◌≡◌, ℕ, ◌+◌, ◌-◌, ◌*◌, ◌/◌, ◌^◌, ◌<◌, Bool, true, false, eqb, List}
+use Rattle.std.proofs.Common.{[], ◌∷◌, ◌++◌, refl, sym, ap, ◌∙◌, arith}
 use Rattle.std.proofs.lemmas.Nat.{pow_pos}
 use Rattle.mq_coder.specs.Decisions.{look, ones}
 use Rattle.mq_coder.proofs.Arithmetic.{split_pow, ones_div}
@@ -27,10 +28,12 @@ alone acc false d =
     (λ k h e. ones_short acc d k e)
     (λ k h p e. look_end (join acc false 255) true k ∙ ones_long acc d k e)
 
-pub look_ff : (acc : ℕ) (ff : Bool) (bs : List ℕ) (d : ℕ) → look acc ff (bs ++ 255 ∷ []) d ≡ look acc ff bs d
+pub look_ff : (acc : ℕ) (ff : Bool) (bs : List ℕ) (d : ℕ) →
+    look acc ff (bs ++ 255 ∷ []) d ≡ look acc ff bs d
 look_ff acc ff [] d = alone acc ff d ∙ sym (look_end acc ff d)
 look_ff acc ff (b ∷ r) d =
     look_cases (λ y. look acc ff (b ∷ (r ++ 255 ∷ [])) d ≡ y) acc ff b r d
     (λ h. look_cut acc ff b (r ++ 255 ∷ []) d h)
     (λ k h e. look_short_by acc ff b (r ++ 255 ∷ []) d k h e)
-    (λ k h p e. look_long_by acc ff b (r ++ 255 ∷ []) d k h p e ∙ look_ff (join acc ff b) (eqb b 255) r k)
+    (λ k h p e. look_long_by acc ff b (r ++ 255 ∷ []) d k h p e
+    ∙ look_ff (join acc ff b) (eqb b 255) r k)

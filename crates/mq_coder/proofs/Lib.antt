@@ -1,12 +1,13 @@
+pub mod After
 pub mod Arithmetic
-pub mod Behind
 pub mod Consumed
-pub mod EndedLemmas
 pub mod Ends
 pub mod Estimates
 pub mod Fed
 pub mod Final
-pub mod Flush
+pub mod FlushForm
+pub mod FlushShifts
+pub mod Grown
 pub mod Held
 pub mod Holding
 pub mod Inverts
@@ -15,7 +16,9 @@ pub mod Look
 pub mod MarkLemmas
 pub mod Marks
 pub mod Out
+pub mod RowWords
 pub mod Rows
+pub mod Shifting
 pub mod Stands
 pub mod Sums
 pub mod Symbols

@@ -1,9 +1,10 @@
 -- Each row of the table of states is in range.
-use Rattle.std.proofs.Common.{ℕ, ◌<◌, ◌≤◌, ◌≡◌, Bool, true, false, ◌&&◌, nat_lt, nat_le, length, get_or, arith, refl}
+use Rattle.std.proofs.Common.{ℕ, ◌<◌, ◌≤◌, ◌≡◌, Bool, true, false, ◌&&◌, nat_lt, nat_le, length}
+use Rattle.std.proofs.Common.{get_or, arith, refl}
 use Rattle.std.specs.List.{list_all}
 use Rattle.std.proofs.lemmas.List.Folds.{list_all_at}
 use Rattle.std.proofs.lemmas.Grind.{common_steps}
-use Rattle.mq_coder.specs.declared.states.StateRow.{StateRow}
+use Rattle.mq_coder.specs.States.{StateRow}
 use Rattle.mq_coder.specs.States.{state_table, row, line}
 
 pub record IsInRange (r : StateRow) : Type 0 where
@@ -37,8 +38,10 @@ pub row_in_range : (state : ℕ) → state < 47 → IsInRange (row state)
 unfolding row
 row_in_range state h =
     let below : state < length state_table = rw long h in
-    in_range _ (elim (is_in_range (get_or state_table state (line 0x5601 46 46 false))) as (λ (b : Bool).
+    in_range _ (elim (is_in_range (get_or state_table state (line 0x5601 46 46 false))) as
+    (λ (b : Bool).
     (is_in_range (get_or state_table state (line 0x5601 46 46 false)) ≡ b) → b ≡ true) [
       | true ↦ λ e. refl
-      | false ↦ λ e. let no = list_all_at is_in_range state_table state (line 0x5601 46 46 false) below e in cc (no, all_in_range)
+      | false ↦ λ e. let no = list_all_at is_in_range state_table state
+          (line 0x5601 46 46 false) below e in cc (no, all_in_range)
     ] refl)

@@ -4,7 +4,8 @@ use Rattle.std.proofs.lemmas.Grind.{common_steps}
 use Rattle.mq_coder.specs.Code.{Coding, shift, renormalise}
 
 -- a turn where A is below three quarters
-pub renormalise_turn : (n : ℕ) (x : Coding) → x.a < 2 ^ 15 → renormalise (suc n) x ≡ renormalise n (shift x)
+pub renormalise_turn : (n : ℕ) (x : Coding) → x.a < 2 ^ 15 →
+    renormalise (suc n) x ≡ renormalise n (shift x)
 unfolding renormalise
 renormalise_turn n x small = grind (arith, common_steps)
 
@@ -20,3 +21,7 @@ pub renormalise_next : (k : ℕ) (x : Coding) → k < 15 → x.a < 2 ^ 15
 renormalise_next k x more small =
     let e : 15 - k ≡ suc (15 - (k + 1)) = omega arith in
     rw e (renormalise_turn (15 - (k + 1)) x small)
+
+pub renormalise_none : (x : Coding) → renormalise zero x ≡ x
+unfolding renormalise
+renormalise_none x = refl

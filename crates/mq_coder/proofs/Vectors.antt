@@ -1,27 +1,31 @@
 -- The definitions at strings and lists of symbols whose codes are known.
 use Rattle.std.proofs.Common.{◌≡◌, ℕ, Bool, true, false, List, [], ◌∷◌, replicate, refl}
 use Rattle.mq_coder.specs.States.{state_table, row, start_contexts, after_symbol}
-use Rattle.mq_coder.specs.Decisions.{kept, byte_at, width_after, place, total, last_counting, value, look, digits, start_interval, estimate, part_symbol, part_contexts, part, doubled, is_lower, next_interval, decisions_from, decisions}
-use Rattle.mq_coder.specs.Code.{start_coding, byte_out, shift, renormalise, code_more, code_less, code_symbol, coded, set_bits, shift_out, drop_ff, ended, code}
+use Rattle.mq_coder.specs.Decisions.{kept, byte_at, width_after, place, total, last_counting, value}
+use Rattle.mq_coder.specs.Decisions.{look, digits, start_interval, estimate, part_symbol}
+use Rattle.mq_coder.specs.Decisions.{part_contexts, part, doubled, is_lower, next_interval}
+use Rattle.mq_coder.specs.Decisions.{decisions_from, decisions}
+use Rattle.mq_coder.specs.Code.{start_coding, byte_out, shift, renormalise, code_mps, code_lps}
+use Rattle.mq_coder.specs.Code.{code_symbol, coded, set_bits, shift_out, drop_ff, flush, code}
 
 no_symbol : code [] ≡ 0xFF ∷ 0x7F ∷ []
-unfolding state_table row start_contexts after_symbol estimate start_coding byte_out shift renormalise code_more code_less code_symbol coded set_bits shift_out drop_ff ended code
+unfolding state_table row start_contexts after_symbol estimate start_coding byte_out shift renormalise code_mps code_lps code_symbol coded set_bits shift_out drop_ff flush code
 no_symbol = refl
 
 column : code ((0, false) ∷ (0, false) ∷ (0, true) ∷ (9, false) ∷ []) ≡ 0x0C ∷ []
-unfolding state_table row start_contexts after_symbol estimate start_coding byte_out shift renormalise code_more code_less code_symbol coded set_bits shift_out drop_ff ended code
+unfolding state_table row start_contexts after_symbol estimate start_coding byte_out shift renormalise code_mps code_lps code_symbol coded set_bits shift_out drop_ff flush code
 column = refl
 
 plus : code ((0, true) ∷ (9, false) ∷ []) ≡ 0x03 ∷ []
-unfolding state_table row start_contexts after_symbol estimate start_coding byte_out shift renormalise code_more code_less code_symbol coded set_bits shift_out drop_ff ended code
+unfolding state_table row start_contexts after_symbol estimate start_coding byte_out shift renormalise code_mps code_lps code_symbol coded set_bits shift_out drop_ff flush code
 plus = refl
 
 minus : code ((0, true) ∷ (9, true) ∷ []) ≡ 0x07 ∷ []
-unfolding state_table row start_contexts after_symbol estimate start_coding byte_out shift renormalise code_more code_less code_symbol coded set_bits shift_out drop_ff ended code
+unfolding state_table row start_contexts after_symbol estimate start_coding byte_out shift renormalise code_mps code_lps code_symbol coded set_bits shift_out drop_ff flush code
 minus = refl
 
 uniform : code (replicate 40 (18, false)) ≡ 0xAC ∷ 0x01 ∷ 0xFF ∷ 0x7F ∷ 0xFF ∷ 0x7F ∷ []
-unfolding state_table row start_contexts after_symbol estimate start_coding byte_out shift renormalise code_more code_less code_symbol coded set_bits shift_out drop_ff ended code
+unfolding state_table row start_contexts after_symbol estimate start_coding byte_out shift renormalise code_mps code_lps code_symbol coded set_bits shift_out drop_ff flush code
 uniform = refl
 
 read_bytes : List ℕ
@@ -64,17 +68,21 @@ read_bits =
     true ∷ false ∷ true ∷ true ∷ true ∷ true ∷ true ∷ true ∷
     []
 
--- a carry behind FF that is cut off in the last byte that counts
+-- a carry after FF that is cut off in the last byte that counts
 uniform_carry :
-    code ((18, false) ∷ (18, false) ∷ (18, true) ∷ (18, false) ∷ (18, false) ∷ (18, false) ∷ (18, false) ∷ (18, false) ∷ (18, false) ∷ (18, false) ∷ (18, false) ∷ (18, false) ∷ (18, false) ∷ (18, false) ∷ (18, false) ∷ (18, true) ∷ (18, false) ∷ (18, false) ∷ (18, false) ∷ (18, true) ∷ (18, false) ∷ [])
+    code ((18, false) ∷ (18, false) ∷ (18, true) ∷ (18, false) ∷ (18, false) ∷ (18, false)
+    ∷ (18, false) ∷ (18, false) ∷ (18, false) ∷ (18, false) ∷ (18, false) ∷ (18, false)
+    ∷ (18, false) ∷ (18, false) ∷ (18, false) ∷ (18, true) ∷ (18, false) ∷ (18, false)
+    ∷ (18, false) ∷ (18, true) ∷ (18, false) ∷ [])
     ≡ 0x80 ∷ 0xFF ∷ 0x87 ∷ []
-unfolding state_table row start_contexts after_symbol estimate start_coding byte_out shift renormalise code_more code_less code_symbol coded set_bits shift_out drop_ff ended code
+unfolding state_table row start_contexts after_symbol estimate start_coding byte_out shift renormalise code_mps code_lps code_symbol coded set_bits shift_out drop_ff flush code
 uniform_carry = refl
 
 -- a value that has left the interval decides for the upper part
 outside :
     decisions (0xFF ∷ 0x80 ∷ []) (replicate 16 18)
-    ≡ true ∷ true ∷ true ∷ true ∷ true ∷ false ∷ true ∷ false ∷ false ∷ false ∷ false ∷ false ∷ false ∷ false ∷ true ∷ true ∷ []
+    ≡ true ∷ true ∷ true ∷ true ∷ true ∷ false ∷ true ∷ false ∷ false ∷ false ∷ false ∷ false
+    ∷ false ∷ false ∷ true ∷ true ∷ []
 unfolding state_table row start_contexts after_symbol look digits start_interval estimate part_symbol part_contexts part doubled is_lower next_interval decisions_from decisions
 outside = refl
 
@@ -83,7 +91,7 @@ not_ahead : decisions (0xAC ∷ 0x01 ∷ 0xFF ∷ 0x80 ∷ []) (18 ∷ []) ≡ f
 unfolding state_table row start_contexts after_symbol look digits start_interval estimate part_symbol part_contexts part doubled is_lower next_interval decisions_from decisions
 not_ahead = refl
 
--- a carry behind FF may be cut off: the value is no rounding of one number
+-- a carry after FF may be cut off: the value is no rounding of one number
 cut_behind_ff : digits (0x00 ∷ 0xFF ∷ 0x80 ∷ []) 1 ≡ 255
 unfolding look digits
 cut_behind_ff = refl

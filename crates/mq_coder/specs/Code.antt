@@ -1,5 +1,7 @@
 -- The code of a list of symbols: the encoder's procedures of ISO/IEC 15444-1, Annex C.2.
-use Rattle.std.specs.Prelude.{ℕ, zero, suc, ◌+◌, ◌-◌, ◌*◌, ◌/◌, ◌%◌, ◌^◌, Bool, ◌==◌, nat_lt, nat_le, List, [], ◌∷◌, ◌++◌, length, get_or, set, take, fold, if◌then◌else◌}
+use Rattle.std.specs.Prelude.{ℕ, zero, suc, ◌+◌, ◌-◌, ◌*◌, ◌/◌, ◌%◌, ◌^◌, Bool, ◌==◌, nat_lt}
+use Rattle.std.specs.Prelude.{nat_le, List, [], ◌∷◌, ◌++◌, length, get_or, set, take, fold}
+use Rattle.std.specs.Prelude.{if◌then◌else◌}
 use Rattle.mq_coder.specs.States.{start_contexts, context_at, same, after_symbol}
 use Rattle.mq_coder.specs.Decisions.{estimate}
 
@@ -24,7 +26,7 @@ last_byte bytes = get_or bytes (length bytes - 1) 0
 abbrev pub raise_last : List ℕ → List ℕ
 raise_last bytes = set bytes (length bytes - 1) (last_byte bytes + 1)
 
--- a byte of 8 bits, and one of 7 bits behind FF
+-- a byte of 8 bits, and one of 7 bits after FF
 abbrev pub put_8 : Coding → List ℕ → ℕ → Coding
 put_8 x bytes c = record x { bytes = bytes ++ (c / 2 ^ 19) ∷ []; c = c % 2 ^ 19; ct = 8 }
 
@@ -65,16 +67,16 @@ learn x cx bit =
     record x { contexts = set x.contexts cx (after_symbol (context_at x.contexts cx) bit) }
 
 -- CODEMPS (C.2.4)
-unfoldable pub code_more : Coding → ℕ → Bool → Coding
-code_more x cx bit =
+unfoldable pub code_mps : Coding → ℕ → Bool → Coding
+code_mps x cx bit =
     let qe = estimate x.contexts cx in
     if nat_le 0x8000 (x.a - qe) then take_upper x qe
     else if nat_lt (x.a - qe) qe then renormalise 15 (learn (take_lower x qe) cx bit)
     else renormalise 15 (learn (take_upper x qe) cx bit)
 
 -- CODELPS (C.2.4)
-unfoldable pub code_less : Coding → ℕ → Bool → Coding
-code_less x cx bit =
+unfoldable pub code_lps : Coding → ℕ → Bool → Coding
+code_lps x cx bit =
     let qe = estimate x.contexts cx in
     if nat_lt (x.a - qe) qe then renormalise 15 (learn (take_upper x qe) cx bit)
     else renormalise 15 (learn (take_lower x qe) cx bit)
@@ -82,7 +84,7 @@ code_less x cx bit =
 -- ENCODE (C.2.2) of a symbol: its context and its bit
 unfoldable pub code_symbol : Coding → ℕ × Bool → Coding
 code_symbol x (cx, bit) =
-    if same bit (context_at x.contexts cx).1 then code_more x cx bit else code_less x cx bit
+    if same bit (context_at x.contexts cx).1 then code_mps x cx bit else code_lps x cx bit
 
 -- after a list of symbols
 unfoldable pub coded : List (ℕ × Bool) → Coding
@@ -103,9 +105,9 @@ unfoldable pub drop_ff : List ℕ → List ℕ
 drop_ff bytes = if last_byte bytes == 255 then take (length bytes - 1) bytes else bytes
 
 -- FLUSH (C.2.9): the ended code
-unfoldable pub ended : Coding → List ℕ
-ended x = drop_ff (shift_out (shift_out (set_bits x))).bytes
+unfoldable pub flush : Coding → List ℕ
+flush x = drop_ff (shift_out (shift_out (set_bits x))).bytes
 
 -- the code of a list of symbols
 unfoldable pub code : List (ℕ × Bool) → List ℕ
-code symbols = ended (coded symbols)
+code symbols = flush (coded symbols)

@@ -1,10 +1,13 @@
--- What a byte string decides: ISO/IEC 15444-1, Annex C.3, with one growing sum in place of registers.
-use Rattle.std.specs.Prelude.{ℕ, zero, suc, ◌+◌, ◌-◌, ◌*◌, ◌/◌, ◌^◌, Bool, false, ◌&&◌, ◌==◌, nat_lt, nat_le, List, [], ◌∷◌, length, get_or, set, fold, not, if◌then◌else◌}
+-- What a byte string decides: ISO/IEC 15444-1, Annex C.3, with one growing sum in place of
+-- registers.
+use Rattle.std.specs.Prelude.{ℕ, zero, suc, ◌+◌, ◌-◌, ◌*◌, ◌/◌, ◌^◌, Bool, false, ◌&&◌, ◌==◌}
+use Rattle.std.specs.Prelude.{nat_lt, nat_le, List, [], ◌∷◌, length, get_or, set, fold, not}
+use Rattle.std.specs.Prelude.{if◌then◌else◌}
 use Rattle.mq_coder.specs.States.{row, start_contexts, context_at, same, after_symbol}
 
 -- The value of a byte string, in the words of weights.
 
--- a string ends behind the first FF that a byte above 8F follows (C.3.4, BYTEIN)
+-- a string ends after the first FF that a byte above 8F follows (C.3.4, BYTEIN)
 unfoldable pub kept : List ℕ → List ℕ
 kept [] = []
 kept (b ∷ []) = b ∷ []
@@ -16,7 +19,7 @@ kept (b ∷ next ∷ rest) =
 unfoldable pub byte_at : List ℕ → ℕ → ℕ
 byte_at bytes i = get_or bytes i 255
 
--- how many bits byte i + 1 gives: 7 where it is a kept byte behind FF, else 8
+-- how many bits byte i + 1 gives: 7 where it is a kept byte after FF, else 8
 unfoldable pub width_after : List ℕ → ℕ → ℕ
 width_after bytes i = if byte_at bytes i == 255 && nat_lt (i + 1) (length bytes) then 7 else 8
 
@@ -47,15 +50,15 @@ value bytes scale =
 
 -- The same value as binary digits: 15 at scale 0, and one more a doubling.
 
--- d digits that are ones, behind the digits of acc
+-- d digits that are ones, after the digits of acc
 abbrev pub ones : ℕ → ℕ → ℕ
 ones acc d = (acc + 1) * 2 ^ d - 1
 
--- how many digits a byte gives: 7 behind FF, else 8
+-- how many digits a byte gives: 7 after FF, else 8
 abbrev pub width : Bool → ℕ
 width after_ff = if after_ff then 7 else 8
 
--- d more digits behind those of acc, read from bytes; after_ff: the byte before is FF
+-- d more digits after those of acc, read from bytes; after_ff: the byte before is FF
 unfoldable pub look : ℕ → Bool → List ℕ → ℕ → ℕ
 look acc after_ff [] d = ones acc d
 look acc after_ff (b ∷ rest) d =
@@ -94,7 +97,8 @@ part_symbol contexts size cx lower =
 unfoldable pub part_contexts : List (ℕ × Bool) → ℕ → ℕ → Bool → List (ℕ × Bool)
 part_contexts contexts size cx lower =
     if not lower && nat_le 0x8000 (size - estimate contexts cx) then contexts
-    else set contexts cx (after_symbol (context_at contexts cx) (part_symbol contexts size cx lower))
+    else set contexts cx (after_symbol (context_at contexts cx)
+    (part_symbol contexts size cx lower))
 
 -- a part of an interval: the lower one has the size Qe
 unfoldable pub part : Interval → ℕ → Bool → Interval

@@ -5,4 +5,6 @@ pub mod Laws
 pub mod Mark
 pub mod Reading
 pub mod Registers
+pub mod Rows
+pub mod Shifts
 pub mod States

@@ -1,6 +1,6 @@
 -- What a mark stands for, and the ended code at it.
 use Rattle.std.specs.Prelude.{ℕ, ◌-◌, ◌≡◌, zero, suc, Bool, List, [], ◌∷◌, length, take}
-use Rattle.mq_coder.specs.Code.{Coding, last_byte, coded, ended}
+use Rattle.mq_coder.specs.Code.{Coding, last_byte, coded, flush}
 use Rattle.mq_coder.specs.declared.mark.Mark.{Mark}
 
 -- the mark of a new encoder
@@ -25,7 +25,7 @@ abbrev pub kept_at : Mark → ℕ
 kept_at m = m.count - 1
 
 abbrev pub tail_at : Mark → List ℕ
-tail_at m = ended (coding_at m)
+tail_at m = flush (coding_at m)
 
 -- A mark stands for a list of symbols, beside a buffer: it holds the registers that the procedures
 -- have after that list, and the buffer begins with their bytes, of which the last may have changed.
@@ -35,4 +35,11 @@ pub record IsMarkOf (m : Mark) (buffer : List ℕ) (symbols : List (ℕ × Bool)
   pub ct : m.ct ≡ (coded symbols).ct
   pub last : m.last ≡ last_byte (coded symbols).bytes
   pub count : m.count ≡ length (coded symbols).bytes
-  pub front : take (kept_at m) buffer ≡ take (kept_at m) (coded symbols).bytes
+  pub prefix : take (kept_at m) buffer ≡ take (kept_at m) (coded symbols).bytes
+
+-- An encoder was left for a list of symbols: its mark, its contexts and its buffer are what they
+-- were then, but for the buffer's last byte put out and those after it.
+pub record IsLeft (m : Mark) (held : List (ℕ × Bool)) (buffer : List ℕ)
+    (symbols : List (ℕ × Bool)) : Type 0 where
+  pub mark : IsMarkOf m buffer symbols
+  pub contexts : held ≡ (coded symbols).contexts

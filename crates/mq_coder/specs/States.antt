@@ -1,11 +1,20 @@
 -- The states and contexts of the MQ coder: ISO/IEC 15444-1, Annex C.2.5, and Annex D, Table D.7.
-use Rattle.std.specs.Prelude.{ℕ, ◌<◌, Bool, true, false, List, [], ◌∷◌, ◌++◌, get_or, replicate, not, if◌then◌else◌}
-use Rattle.mq_coder.specs.declared.states.StateRow.{StateRow}
+use Rattle.std.specs.Prelude.{ℕ, ◌<◌, Bool, true, false, List, [], ◌∷◌, ◌++◌, get_or, replicate}
+use Rattle.std.specs.Prelude.{not, if◌then◌else◌}
+
+-- A row of Table C.2: the estimate Qe of the probability of the less probable symbol (LPS), where
+-- 0x8000 stands for three quarters, the next states after the more probable symbol (MPS) and after
+-- the LPS, and whether the LPS becomes the MPS.
+pub record StateRow : Type 0 where
+  pub qe : ℕ
+  pub nmps : ℕ
+  pub nlps : ℕ
+  pub switch : Bool
 
 abbrev pub line : ℕ → ℕ → ℕ → Bool → StateRow
-line qe more less change = record { qe = qe; nmps = more; nlps = less; switch = change }
+line qe nmps nlps switch = record { qe = qe; nmps = nmps; nlps = nlps; switch = switch }
 
--- Table C.2: Qe, the next state after the more and after the less probable symbol, the switch
+-- Table C.2, by state
 unfoldable pub state_table : List StateRow
 state_table =
     line 0x5601 1 1 true ∷
@@ -80,6 +89,6 @@ same false bit = not bit
 
 -- a context after a symbol
 unfoldable pub after_symbol : ℕ × Bool → Bool → ℕ × Bool
-after_symbol (state, more) bit =
-    if same bit more then ((row state).nmps, more)
-    else ((row state).nlps, (if (row state).switch then not more else more))
+after_symbol (state, mps) bit =
+    if same bit mps then ((row state).nmps, mps)
+    else ((row state).nlps, (if (row state).switch then not mps else mps))

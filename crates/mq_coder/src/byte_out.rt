@@ -4,16 +4,16 @@ ghost use Rattle.mq_coder.specs.Code.{Coding, byte_out};
 
 /// What BYTEOUT leaves: the register C, and CT, the shifts until C holds another byte.
 #[derive(Clone, Copy)]
-pub struct Left {
+pub struct CodeRegister {
     pub c: u32,
     pub ct: u32,
 }
 
-/// Puts a byte out behind the first `count` bytes, or carries into the last of these first
+/// Puts a byte out after the first `count` bytes, or carries into the last of these first
 /// (ISO/IEC 15444-1, Figure C.8).
 #[inline(always)]
 #[tactic(auto, unfolding(crate::specs::Code::byte_out))]
-pub fn byte_out(bytes: &mut [u8], count: u32, c: u32) -> Left
+pub fn byte_out(bytes: &mut [u8], count: u32, c: u32) -> CodeRegister
     requires room { count < length bytes.old }
     requires below { c < 2 ^ 28 }
     requires first { count ≡ 0 → c < 2 ^ 27 }
@@ -28,14 +28,14 @@ pub fn byte_out(bytes: &mut [u8], count: u32, c: u32) -> Left
     let last = if end == 0 { 0 } else { bytes[end - 1] };
     if last == 0xFF {
         bytes[end] = (c >> 20) as u8;
-        return Left {
+        return CodeRegister {
             c: c & 0xF_FFFF,
             ct: 7,
         };
     }
     if c < 0x800_0000 {
         bytes[end] = (c >> 19) as u8;
-        return Left {
+        return CodeRegister {
             c: c & 0x7_FFFF,
             ct: 8,
         };
@@ -44,13 +44,13 @@ pub fn byte_out(bytes: &mut [u8], count: u32, c: u32) -> Left
     bytes[end - 1] = last + 1;
     if last + 1 == 0xFF {
         bytes[end] = (rest >> 20) as u8;
-        return Left {
+        return CodeRegister {
             c: rest & 0xF_FFFF,
             ct: 7,
         };
     }
     bytes[end] = (rest >> 19) as u8;
-    Left {
+    CodeRegister {
         c: rest & 0x7_FFFF,
         ct: 8,
     }

@@ -1,11 +1,12 @@
 // The encoder.
-ghost use Rattle.std.specs.Prelude.{◌≡◌, ℕ, ◌+◌, ◌-◌, ◌*◌, ◌<◌, ◌≤◌, ◌^◌, Bool, IsTrue, ◌↔◌, List, [], ◌∷◌, ◌++◌, length, take};
+ghost use Rattle.std.specs.Prelude.{◌≡◌, ℕ, ◌+◌, ◌-◌, ◌*◌, ◌<◌, ◌≤◌, ◌^◌, Bool, IsTrue, ◌↔◌, List};
+ghost use Rattle.std.specs.Prelude.{[], ◌∷◌, ◌++◌, length, take};
 
 use crate::contexts::Contexts;
 use crate::mark::Mark;
-use crate::parts::{part_of, upper_part};
 use crate::registers::Registers;
 use crate::renormalise::{THREE_QUARTERS, renormalise};
+use crate::subintervals::{stays, subinterval, upper_subinterval};
 
 /// An encoder of ISO/IEC 15444-1, Annex C.2, over a buffer that its caller lends: `bytes` holds
 /// what was put out in its first `registers.count` places.
@@ -20,9 +21,9 @@ pub struct Encoder<'a> {
 }
 
 impl<'a> Encoder<'a> {
-    ghost use Rattle.mq_coder.specs.Code.{coded, code_symbol};
+    ghost use Rattle.mq_coder.specs.Code.{coded, code};
     ghost use Rattle.mq_coder.specs.Encoder.{Stands, state_of, count_of};
-    ghost use Rattle.mq_coder.specs.Mark.{IsMarkOf};
+    ghost use Rattle.mq_coder.specs.Mark.{IsMarkOf, IsLeft};
     ghost use Rattle.mq_coder.specs.declared.mark.Mark.{Mark};
 
     /// An encoder that writes to `bytes`, of which there are fewer than 2^31, with new contexts.
@@ -44,6 +45,46 @@ impl<'a> Encoder<'a> {
         }
     }
 
+    /// An encoder that goes on where another was left, over the same bytes: `mark` and `contexts`
+    /// are those of the other one. It stands for each list for which the other stood.
+    pub fn resume(bytes: &'a mut [u8], mark: &Mark, contexts: &Contexts) -> Encoder<'a>
+        requires few { length bytes.old < 2 ^ 31 }
+        requires filled { mark.now.count ≤ length bytes.old }
+        ensures stands { (symbols : List (ℕ × Bool)) →
+            IsLeft mark.now contexts.now bytes.old symbols → Stands result symbols }
+        // each mark up to this one stands for its list as before
+        ensures marks { (m : Mark) (symbols : List (ℕ × Bool)) → m.count ≤ mark.now.count →
+            IsMarkOf m bytes.old symbols → IsMarkOf m result.bytes.now symbols }
+        ensures count { count_of result ≡ mark.now.count }
+        ensures fixed { take (mark.now.count - 1) result.bytes.now
+            ≡ take (mark.now.count - 1) bytes.old }
+        ensures room { length result.bytes.now ≡ length bytes.old }
+        ensures same_reference { result.bytes.ghost_name ≡ bytes.entry.ghost_name }
+    {
+        if mark.count > 0 {
+            bytes[mark.count as usize - 1] = mark.last;
+        }
+        Encoder {
+            bytes,
+            contexts: *contexts,
+            registers: Registers {
+                a: mark.a,
+                c: mark.c,
+                ct: u32::from(mark.ct),
+                count: mark.count,
+            },
+        }
+    }
+
+    /// The contexts, which another encoder needs beside the mark to go on.
+    pub fn contexts(&self) -> Contexts
+        ensures contexts { result ≡ self.now.contexts }
+        ensures left { (m : Mark) (symbols : List (ℕ × Bool)) → Stands self.now symbols →
+            IsMarkOf m self.now.bytes.now symbols → IsLeft m result self.now.bytes.now symbols }
+    {
+        self.contexts
+    }
+
     /// The number of bytes put out.
     pub fn count(&self) -> u32
         ensures count { result ≡ count_of self.now }
@@ -61,6 +102,7 @@ impl<'a> Encoder<'a> {
     }
 
     /// Codes the symbol `bit` in context `cx`, below 19. The buffer has room for three more bytes.
+    #[inline(always)]
     pub fn put(&mut self, cx: u8, bit: bool)
         requires context { cx < 19 }
         requires room { count_of self.old + 3 ≤ length self.old.bytes.now }
@@ -68,23 +110,24 @@ impl<'a> Encoder<'a> {
             Stands self.new (symbols ++ (cx, bit) ∷ []) }
         ensures fixed { take (count_of self.old - 1) self.new.bytes.now
             ≡ take (count_of self.old - 1) self.old.bytes.now }
-        // a mark that lies behind stands for the same list as before
+        // a mark that was taken before stands for the same list as it did
         ensures marks { (m : Mark) (symbols : List (ℕ × Bool)) → m.count ≤ count_of self.old →
             IsMarkOf m self.old.bytes.now symbols → IsMarkOf m self.new.bytes.now symbols }
-        ensures more { count_of self.old ≤ count_of self.new }
+        ensures grows { count_of self.old ≤ count_of self.new }
         ensures three { count_of self.new ≤ count_of self.old + 3 }
         ensures room { length self.new.bytes.now ≡ length self.old.bytes.now }
         ensures same_reference { self.new.bytes.ghost_name ≡ self.old.bytes.ghost_name }
     {
-        let (_, more) = self.contexts.get(cx);
-        let qe = self.contexts.estimate(cx);
+        let context = self.contexts.get(cx);
+        let qe = context.estimate();
+        let is_lps = bit != context.mps();
         let r = self.registers;
-        if bit == more && r.a - qe >= THREE_QUARTERS {
-            self.registers = upper_part(r, qe);
+        if stays(r.a - qe, is_lps) {
+            self.registers = upper_subinterval(r, qe);
             return;
         }
-        self.contexts.learn(cx, bit);
-        let part = part_of(r, qe, bit == more);
+        self.contexts.set(cx, context.next(is_lps));
+        let part = subinterval(r, qe, is_lps);
         let bytes = &mut *self.bytes;
         self.registers = renormalise(bytes, part);
     }
@@ -94,6 +137,9 @@ impl<'a> Encoder<'a> {
         ensures stands { (symbols : List (ℕ × Bool)) → Stands self.now symbols →
             IsMarkOf result self.now.bytes.now symbols }
         ensures count { result.count ≡ count_of self.now }
+        // each code from here on is longer than what was put out
+        ensures later { (symbols later : List (ℕ × Bool)) → Stands self.now symbols →
+            result.count + 1 ≤ length (code (symbols ++ later)) }
     {
         let r = self.registers;
         let last = if r.count == 0 {

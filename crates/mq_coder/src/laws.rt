@@ -1,7 +1,7 @@
 // Laws of the definitions, for the crates above: a call of one of these functions, which do
 // nothing, gives the caller its clause.
-ghost use Rattle.std.specs.Prelude.{◌≡◌, ℕ, Bool, List};
-ghost use Rattle.mq_coder.specs.Code.{coded};
+ghost use Rattle.std.specs.Prelude.{◌≡◌, ◌≤◌, ◌+◌, ◌*◌, ℕ, Bool, List, ◌++◌, length};
+ghost use Rattle.mq_coder.specs.Code.{coded, code};
 ghost use Rattle.mq_coder.specs.Decisions.{value, digits};
 ghost use Rattle.mq_coder.specs.Laws.{Inverts, IsCodeForm, IsBetween};
 
@@ -18,7 +18,7 @@ pub fn weights()
 {}
 
 /// A code has from one byte to two more than were put out before its ending, never ends in FF, and
-/// has no byte above 8F behind an FF.
+/// has no byte above 8F after an FF.
 pub fn code_form()
     ensures { (symbols : List (ℕ × Bool)) → IsCodeForm symbols }
 {}
@@ -26,4 +26,17 @@ pub fn code_form()
 /// The bounds of the registers between two symbols.
 pub fn register_bounds()
     ensures { (symbols : List (ℕ × Bool)) → IsBetween (coded symbols) }
+{}
+
+/// A list of symbols puts out at most 15 bytes for 7 of them, before its ending.
+pub fn few_bytes()
+    ensures { (symbols : List (ℕ × Bool)) →
+        7 * length (coded symbols).bytes ≤ 15 * length symbols + 5 }
+{}
+
+/// Bytes that are put out stay: each code of a list that begins with some symbols is longer than
+/// what these symbols put out.
+pub fn later_codes()
+    ensures { (symbols later : List (ℕ × Bool)) →
+        length (coded symbols).bytes + 1 ≤ length (code (symbols ++ later)) }
 {}

@@ -14,6 +14,7 @@ pub struct Mark {
     pub ghost wide: { 2 ^ 15 ≤ a },
     pub ghost sixteen_bits: { a < 2 ^ 16 },
     pub ghost shifts_left: { 1 ≤ ct },
+    pub ghost at_most: { ct ≤ 12 },
     pub ghost within: { (c + a) * 2 ^ ct ≤ 2 ^ 28 },
     pub ghost within_first: { count ≡ 0 → (c + a) * 2 ^ ct ≤ 2 ^ 27 },
     pub ghost few: { count < 2 ^ 31 },

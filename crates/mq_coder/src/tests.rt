@@ -2,7 +2,7 @@
 use super::*;
 use arrayvec::ArrayVec;
 
-// Puts a list of symbols, each of which has a context below 19.
+/// Puts a list of symbols, each of which has a context below 19.
 fn put_all(encoder: &mut Encoder, symbols: &[(u8, bool)]) {
     for (cx, bit) in symbols {
         if *cx < 19 && encoder.has_room() {
@@ -11,7 +11,7 @@ fn put_all(encoder: &mut Encoder, symbols: &[(u8, bool)]) {
     }
 }
 
-// The whole ended code: the kept ones of the bytes that were put out, then the tail.
+/// The whole ended code: the kept ones of the bytes that were put out, then the tail.
 fn whole(bytes: &[u8], code: &EndedCode) -> ArrayVec<u8, 8> {
     let mut all = ArrayVec::new();
     for byte in bytes.iter().take(code.kept as usize) {
@@ -59,7 +59,7 @@ fn codes_signs(rt: HostRuntime) {
 }
 
 #[test]
-fn ends_at_a_mark_that_lies_behind(rt: HostRuntime) {
+fn ends_at_an_earlier_mark(rt: HostRuntime) {
     let mut buffer = [0; 256];
     let mut encoder = Encoder::new(&mut buffer);
     put_all(&mut encoder, &[(18, false); 40]);
@@ -72,4 +72,21 @@ fn ends_at_a_mark_that_lies_behind(rt: HostRuntime) {
         [0xAC, 0x01, 0xFF, 0x7F, 0xFF, 0x7F].as_slice()
     );
     assert_eq!(rt; ended_len(&mark), 6);
+}
+
+#[test]
+fn goes_on_where_it_was_left(rt: HostRuntime) {
+    let mut buffer = [0; 256];
+    let mut encoder = Encoder::new(&mut buffer);
+    put_all(&mut encoder, &[(18, false); 40]);
+    let mark = encoder.mark();
+    let contexts = encoder.contexts();
+    put_all(&mut encoder, &[(18, false); 40]);
+    let mut next = Encoder::resume(&mut buffer, &mark, &contexts);
+    let code = ending(&next.mark());
+    put_all(&mut next, &[(18, true); 40]);
+    assert_eq!(rt;
+        whole(next.finish(), &code).as_slice(),
+        [0xAC, 0x01, 0xFF, 0x7F, 0xFF, 0x7F].as_slice()
+    );
 }

@@ -1,5 +1,6 @@
 -- The turns of RENORMD, and the contexts through them.
-use Rattle.std.proofs.Common.{◌≡◌, ℕ, zero, suc, ◌+◌, ◌-◌, ◌^◌, ◌<◌, ◌≤◌, inl, inr, Bool, true, false, List, refl, ◌∙◌, ap, arith}
+use Rattle.std.proofs.Common.{◌≡◌, ℕ, zero, suc, ◌+◌, ◌-◌, ◌^◌, ◌<◌, ◌≤◌, inl, inr, Bool, true}
+use Rattle.std.proofs.Common.{false, List, refl, ◌∙◌, ap, arith}
 use Rattle.std.proofs.Math.Bool.{beq}
 use Rattle.std.proofs.lemmas.Bool.{cases_lt}
 use Rattle.mq_coder.specs.States.{same}
@@ -15,7 +16,8 @@ pub record Reached (bytes : List ℕ) (r : Registers) (it : Interval) (left : �
   pub same_end : doubled 15 it ≡ doubled left turned
 
 -- one turn more
-pub reached_next : (bytes : List ℕ) (r next : Registers) (it : Interval) (k : ℕ) → k < 15 → r.a < 2 ^ 15
+pub reached_next : (bytes : List ℕ) (r next : Registers) (it : Interval) (k : ℕ) → k < 15 →
+    r.a < 2 ^ 15
     → ((j : Interval) → HoldsAt bytes r j → HoldsAt bytes next (twice j))
     → Reached bytes r it (15 - k) → Reached bytes next it (15 - (k + 1))
 reached_next bytes r next it k more small step h =
@@ -25,7 +27,8 @@ reached_next bytes r next it k more small step h =
     record {
       turned = twice h.turned;
       holds = step h.turned h.holds;
-      same_end = h.same_end ∙ (ap (λ (n : ℕ). doubled n h.turned) e ∙ doubled_turn (15 - (k + 1)) h.turned narrow);
+      same_end = h.same_end ∙ (ap (λ (n : ℕ). doubled n h.turned) e
+          ∙ doubled_turn (15 - (k + 1)) h.turned narrow);
     }
 
 -- no turn left

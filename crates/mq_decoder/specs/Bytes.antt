@@ -10,7 +10,7 @@ is_ff bytes place = byte_at bytes place == 255
 abbrev pub rest_of : List ℕ → ℕ → List ℕ
 rest_of bytes place = drop (place + 1) bytes
 
--- BYTEIN: the byte that is added behind the one at a place, and the place of the last byte read
+-- BYTEIN: the byte that is added after the one at a place, and the place of the last byte read
 abbrev pub next_byte : List ℕ → ℕ → ByteIn
 next_byte bytes place =
     if is_ff bytes place

@@ -11,7 +11,7 @@ pub struct ByteIn {
     pub place: usize,
 }
 
-/// The byte at a place, FF behind the end of the string.
+/// The byte at a place, FF after the end of the string.
 #[inline(always)]
 #[tactic(auto, unfolding(mq_coder::specs::Decisions::byte_at))]
 pub fn byte_at(bytes: &[u8], place: usize) -> u32
@@ -25,7 +25,7 @@ pub fn byte_at(bytes: &[u8], place: usize) -> u32
     }
 }
 
-/// The byte that BYTEIN adds behind the one at `place` (ISO/IEC 15444-1, C.3.4): behind FF a byte of
+/// The byte that BYTEIN adds after the one at `place` (ISO/IEC 15444-1, C.3.4): after FF a byte of
 /// 7 bits, and FF again where a marker or the end of the string follows; else a byte of 8 bits.
 #[inline(always)]
 #[tactic(auto, unfolding(mq_coder::specs::Decisions::byte_at))]

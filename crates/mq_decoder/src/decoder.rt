@@ -1,10 +1,11 @@
 // The decoder.
-ghost use Rattle.std.specs.Prelude.{◌≡◌, ℕ, ◌+◌, ◌-◌, ◌*◌, ◌<◌, ◌≤◌, ◌^◌, Bool, List, [], ◌∷◌, ◌++◌, length};
+ghost use Rattle.std.specs.Prelude.{◌≡◌, ℕ, ◌+◌, ◌-◌, ◌*◌, ◌<◌, ◌≤◌, ◌^◌, Bool, List, [], ◌∷◌};
+ghost use Rattle.std.specs.Prelude.{◌++◌, length};
 
 use crate::byte_in::{byte_at, byte_in};
-use crate::parts::part_of;
 use crate::registers::Registers;
 use crate::renormalise::{first_c, renormalise};
+use crate::subintervals::subinterval;
 use mq_coder::{Contexts, THREE_QUARTERS};
 
 /// A decoder of ISO/IEC 15444-1, Annex C.3, over a byte string.
@@ -43,6 +44,7 @@ impl<'a> Decoder<'a> {
     }
 
     /// The decision in context `cx`, below 19.
+    #[inline(always)]
     pub fn take(&mut self, cx: u8) -> bool
         requires { cx < 19 }
         ensures decides { (cxs : List ℕ) → Stands self.old cxs →
@@ -55,17 +57,18 @@ impl<'a> Decoder<'a> {
             Stands self.old (contexts_of before) → result ≡ bit }
         ensures bytes { self.new.bytes.now ≡ self.old.bytes.now }
     {
-        let (_, more) = self.contexts.get(cx);
-        let qe = self.contexts.estimate(cx);
+        let context = self.contexts.get(cx);
+        let qe = context.estimate();
+        let mps = context.mps();
         let r = self.registers;
         let lower = r.c >> 16 < qe;
-        let bit = (lower == (r.a - qe < qe)) == more;
-        let part = part_of(r, qe);
+        let bit = (lower == (r.a - qe < qe)) == mps;
+        let part = subinterval(r, qe);
         if !lower && part.a >= THREE_QUARTERS {
             self.registers = part;
             return bit;
         }
-        self.contexts.learn(cx, bit);
+        self.contexts.set(cx, context.next(bit != mps));
         self.registers = renormalise(self.bytes, part);
         bit
     }

@@ -1,6 +1,6 @@
 //! The MQ arithmetic decoder of ISO/IEC 15444-1, Annex C.3.
 //!
-//! A [`Decoder`] is asked for one decision after the other, each in a context. Its answers are the
+//! A [`Decoder`] is asked for one decision after the other, each in a context. Its bits are the
 //! decisions that the byte string makes by its value, for every string and every list of contexts;
 //! over the code of a list of symbols they are the bits of that list. Past the end of the string it
 //! reads ones. Nothing takes memory, and nothing is refused.
@@ -14,9 +14,9 @@
 
 mod byte_in;
 mod decoder;
-mod parts;
 mod registers;
 mod renormalise;
+mod subintervals;
 #[cfg(test)]
 mod tests;
 

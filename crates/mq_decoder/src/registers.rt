@@ -2,7 +2,7 @@
 ghost use Rattle.std.specs.Prelude.{◌*◌, ◌<◌, ◌≤◌, ◌^◌};
 
 /// The registers A, C and CT of ISO/IEC 15444-1, Annex C.3.1, and the place of the last byte read,
-/// the length of the string where that is one of the FF behind it. C is cut to A * 2^16: a value
+/// the length of the string where that is one of the FF after it. C is cut to A * 2^16: a value
 /// above that has left the interval, and decides for the upper part however large it is.
 #[derive(Clone, Copy)]
 pub struct Registers {

@@ -20,7 +20,7 @@ pub fn first_c(first: u32, byte: u32, bits: u32) -> u32
     read.min(THREE_QUARTERS << 16)
 }
 
-// C with a byte added to it, cut to A * 2^16.
+/// C with a byte added to it, cut to A * 2^16.
 #[inline(always)]
 fn fed(c: u32, a: u32, byte: u32, bits: u32) -> u32
     requires small { a < 2 ^ 15 }
@@ -34,7 +34,7 @@ fn fed(c: u32, a: u32, byte: u32, bits: u32) -> u32
     added.min(a << 16)
 }
 
-// Reads a byte where no shift is left, and doubles A and C.
+/// Reads a byte where no shift is left, and doubles A and C.
 #[inline(always)]
 fn shift(bytes: &[u8], r: Registers) -> Registers
     requires small { r.a < 2 ^ 15 }

@@ -6,7 +6,8 @@ use Rattle.mq_decoder.proofs.renormalise.renormalise.Given as goal
 
 abbrev pub invariant-loop : goal.invariant-loop
 invariant-loop l = record {
-  in_step : (it : Interval) → HoldsAt l.bytes l.initial.now it → Reached l.bytes l.now it (15 - l.counter);
+  in_step : (it : Interval) → HoldsAt l.bytes l.initial.now it →
+      Reached l.bytes l.now it (15 - l.counter);
   grown : 2 ^ l.counter ≤ l.now.a;
   inside : l.now.place ≤ length l.bytes;
 }

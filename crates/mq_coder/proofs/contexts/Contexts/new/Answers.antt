@@ -4,4 +4,4 @@ use Rattle.mq_coder.proofs.contexts.Contexts.new.Goals as goal
 
 pub returns : goal.returns
 unfolding start_contexts
-returns c = refl
+returns c = rw (c.numbered-contexts.ensures, c.numbered.ensures, c.numbered-2.ensures, c.numbered-3.ensures) refl
