@@ -1,0 +1,12 @@
+pub mod Certified
+pub mod Chains
+pub mod Close
+pub mod Gaps
+pub mod Levels
+pub mod Lists
+pub mod Prices
+pub mod Products
+pub mod Splits
+pub mod Start
+pub mod SumLemmas
+pub mod Take
