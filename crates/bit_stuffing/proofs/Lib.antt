@@ -4,4 +4,4 @@ pub mod RegisterLemmas
 pub mod TakeLemmas
 pub mod WordLemmas
 pub mod SourceLemmas
-pub mod LayLemmas
+pub mod StuffsLemmas

@@ -14,6 +14,7 @@ took_more a b c p q h k = record {
 pub took_none : (a : BitSource) → Took a [] a
 took_none a = record { same = refl; ahead = refl; taken = sym (append-nil a.taken) }
 
--- what is ahead behind bits that were taken
-pub took_rest : (a b : BitSource) (p rest : List Bool) → Took a p b → a.ahead ≡ p ++ rest → b.ahead ≡ rest
+-- what is ahead after bits that were taken
+pub took_rest : (a b : BitSource) (p rest : List Bool) → Took a p b → a.ahead ≡ p ++ rest
+    → b.ahead ≡ rest
 took_rest a b p rest h e = append_cancel_left p b.ahead rest (sym h.ahead ∙ e)

@@ -1,5 +1,7 @@
--- Bits of numbers, and the bits that a packet header's bytes hold (ISO/IEC 15444-1, B.10.1). A bit is a Bool; the high bit comes first.
-use Rattle.std.specs.Prelude.{ℕ, suc, zero, ◌+◌, ◌*◌, ◌/◌, ◌%◌, ◌^◌, ◌<◌, ◌==◌, Bool, true, false, if◌then◌else◌, List, [], ◌∷◌, ◌++◌}
+-- Bits of numbers, and the bits that a packet header's bytes hold (ISO/IEC 15444-1, B.10.1). A bit
+-- is a Bool; the high bit comes first.
+use Rattle.std.specs.Prelude.{ℕ, suc, zero, ◌+◌, ◌*◌, ◌/◌, ◌%◌, ◌^◌, ◌<◌, ◌==◌, Bool, true, false}
+use Rattle.std.specs.Prelude.{if◌then◌else◌, List, [], ◌∷◌, ◌++◌}
 
 -- the number that a bit stands for
 abbrev pub bit_value : Bool → ℕ
@@ -11,7 +13,7 @@ unfoldable pub number : ℕ → ℕ → List Bool
 number zero n = []
 number (suc width) n = number width (n / 2) ++ (n % 2 == 1) ∷ []
 
--- the number that has these bits behind those of `high`
+-- the number that has these bits after those of `high`
 unfoldable pub value_from : ℕ → List Bool → ℕ
 value_from high [] = high
 value_from high (bit ∷ bits) = value_from (2 * high + bit_value bit) bits
@@ -25,7 +27,7 @@ abbrev pub byte_width : Bool → ℕ
 byte_width after_ff = if after_ff then 7 else 8
 
 -- the bits of a header that the bytes hold, without the high bit of each byte after FF;
--- `after_ff` says whether the first of them stands behind FF
+-- `after_ff` says whether the first of them stands after FF
 unfoldable pub useful : Bool → List ℕ → List Bool
 useful after_ff [] = []
 useful after_ff (byte ∷ bytes) = number (byte_width after_ff) byte ++ useful (byte == 255) bytes
@@ -35,7 +37,7 @@ unfoldable pub IsStuffed : Bool → List ℕ → Type 0
 IsStuffed after_ff [] = Unit {0}
 IsStuffed after_ff (byte ∷ bytes) = (byte < 2 ^ byte_width after_ff) × IsStuffed (byte == 255) bytes
 
--- whether what follows these bytes stands behind FF
+-- whether what follows these bytes stands after FF
 unfoldable pub ends_in_ff : Bool → List ℕ → Bool
 ends_in_ff after_ff [] = after_ff
 ends_in_ff after_ff (byte ∷ bytes) = ends_in_ff (byte == 255) bytes

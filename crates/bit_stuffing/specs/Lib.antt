@@ -1,4 +1,4 @@
 pub mod Bits
 pub mod Stuffing
 pub mod Source
-pub mod State
+pub mod Inside

@@ -1,7 +1,8 @@
 -- What a reader of a header's bits stands for (ISO/IEC 15444-1, B.10.1).
 use Rattle.std.specs.Prelude.{◌≡◌, ℕ, Bool, List, ◌++◌}
 
--- a reader of a header's bits: the bytes that it was given, the bits that were taken, and those that can still be taken
+-- a reader of a header's bits: the bytes that it was given, the bits that were taken, and those
+-- that can still be taken
 pub record BitSource : Type 0 where
   pub bytes : List ℕ
   pub taken : List Bool

@@ -4,18 +4,18 @@ ghost use Rattle.std.specs.Prelude.{◌≡◌, ◌+◌, ◌*◌, ◌^◌, ◌<�
 use crate::bit_register::{byte_at, has_no_ff, low_bits, word_at};
 use crate::bit_sink::BitSink;
 
-/// A counter of the bytes that a `BitOut` would make of the same bits (ISO/IEC 15444-1, B.10.1), at most
-/// 7,000 of them. It keeps the bits behind the bytes that are counted, and counts four bytes at a time
-/// where none of them is FF.
+/// A counter of the bytes that a `BitOut` would make of the same bits (ISO/IEC 15444-1, B.10.1), at
+/// most 7,000 of them. It keeps the bits after the bytes that are counted, and counts four bytes at
+/// a time where none of them is FF.
 #[derive(Clone, Copy)]
 pub struct BitCount {
-    // the bytes that are counted
+    /// the bytes that are counted
     whole: u32,
-    // the bits behind them, as the low ones of a number
+    /// the bits after them, as the low ones of a number
     held: u64,
-    // how many these are, with the stuffed 0 of a byte behind FF
+    /// how many these are, with the stuffed 0 of a byte after FF
     filled: u32,
-    // all bits that were put
+    /// all bits that were put
     bits: u32,
     ghost room: { filled ≤ 64 },
     ghost whole_few: { 7 * whole + filled ≤ bits + 1 },
@@ -25,7 +25,7 @@ pub struct BitCount {
 impl BitCount {
     ghost use Rattle.std.specs.Prelude.{List, [], ◌++◌, Bool};
     ghost use Rattle.bit_stuffing.specs.Stuffing.{packed};
-    ghost use Rattle.bit_stuffing.specs.State.{Counts};
+    ghost use Rattle.bit_stuffing.specs.Inside.{Counts};
     ghost use Rattle.bit_stuffing.specs.Bits.{number};
 
     /// A counter of no bits.
@@ -41,10 +41,11 @@ impl BitCount {
         }
     }
 
-    // Counts a byte. Behind FF stands a stuffed 0.
+    /// Counts a byte. After FF stands a stuffed 0.
     fn with_byte(self) -> BitCount
         requires { 8 ≤ self.filled }
-        ensures counts { (bits : List Bool) → Counts self.whole self.held self.filled self.bits bits →
+        ensures counts { (bits : List Bool) →
+            Counts self.whole self.held self.filled self.bits bits →
             Counts result.whole result.held result.filled result.bits bits }
         ensures fewer { result.filled < self.filled }
         ensures bits { result.bits ≡ self.bits }
@@ -66,10 +67,11 @@ impl BitCount {
         }
     }
 
-    // Counts every byte that is full.
+    /// Counts every byte that is full.
     #[cold]
     fn emptied(self) -> BitCount
-        ensures counts { (bits : List Bool) → Counts self.whole self.held self.filled self.bits bits →
+        ensures counts { (bits : List Bool) →
+            Counts self.whole self.held self.filled self.bits bits →
             Counts result.whole result.held result.filled result.bits bits }
         ensures begun { result.filled < 8 }
         ensures bits { result.bits ≡ self.bits }
@@ -81,10 +83,11 @@ impl BitCount {
         count
     }
 
-    // Counts the bytes that are full where so many bits more would be too many.
+    /// Counts the bytes that are full where so many bits more would be too many.
     fn with_room(self, width: u32) -> BitCount
         requires { width ≤ 50 }
-        ensures counts { (bits : List Bool) → Counts self.whole self.held self.filled self.bits bits →
+        ensures counts { (bits : List Bool) →
+            Counts self.whole self.held self.filled self.bits bits →
             Counts result.whole result.held result.filled result.bits bits }
         ensures room { result.filled + width ≤ 64 }
         ensures bits { result.bits ≡ self.bits }
@@ -95,9 +98,11 @@ impl BitCount {
         self
     }
 
-    // Counts four bytes where so many are full and none of them is FF; where one is, every byte that is full.
+    /// Counts four bytes where so many are full and none of them is FF; where one is, every byte
+    /// that is full.
     fn emptied_by_word(self) -> BitCount
-        ensures counts { (bits : List Bool) → Counts self.whole self.held self.filled self.bits bits →
+        ensures counts { (bits : List Bool) →
+            Counts self.whole self.held self.filled self.bits bits →
             Counts result.whole result.held result.filled result.bits bits }
         ensures bits { result.bits ≡ self.bits }
     {
@@ -116,13 +121,14 @@ impl BitCount {
         }
     }
 
-    // Puts a number behind few bits. What leaves the register at its high end has been counted.
+    /// Puts a number after few bits. What leaves the register at its high end has been counted.
     fn with_number(self, width: u32, value: u64) -> BitCount
         requires width { width ≤ 50 }
         requires room { self.filled + width ≤ 64 }
         requires value { value < 2 ^ width }
         requires few { self.bits + width ≤ 7000 }
-        ensures counts { (bits : List Bool) → Counts self.whole self.held self.filled self.bits bits →
+        ensures counts { (bits : List Bool) →
+            Counts self.whole self.held self.filled self.bits bits →
             Counts result.whole result.held result.filled result.bits (bits ++ number width value) }
         ensures bits { result.bits ≡ self.bits + width }
     {
@@ -136,7 +142,8 @@ impl BitCount {
 
     /// The number of bytes of the bits that were put, as `BitOut::finish` makes them.
     pub fn finish(self) -> u32
-        ensures { (bits : List Bool) → Counts self.whole self.held self.filled self.bits bits → result ≡ length (packed bits) }
+        ensures { (bits : List Bool) → Counts self.whole self.held self.filled self.bits bits →
+            result ≡ length (packed bits) }
     {
         let count = self.emptied();
         if count.filled > 0 {
@@ -147,7 +154,7 @@ impl BitCount {
 }
 
 impl BitSink for BitCount {
-    ghost use Rattle.bit_stuffing.specs.State.{Counts};
+    ghost use Rattle.bit_stuffing.specs.Inside.{Counts};
 
     ghost StandsFor = { λ s bits. Counts s.whole s.held s.filled s.bits bits };
 

@@ -1,20 +1,21 @@
 // Bits from bytes.
-ghost use Rattle.std.specs.Prelude.{◌≡◌, ◌<◌, ◌≤◌, ◌^◌, [], ◌∷◌, ◌++◌, ℕ, length, take, IfOk, IfErr, OnErr, Ok};
+ghost use Rattle.std.specs.Prelude.{◌≡◌, ◌<◌, ◌≤◌, ◌^◌, [], ◌∷◌, ◌++◌, ℕ, length, take, IfOk};
+ghost use Rattle.std.specs.Prelude.{IfErr, OnErr, Ok};
 ghost use Rattle.bit_stuffing.specs.Stuffing.{supply, fault_of, place_of, Stuffs};
 ghost use Rattle.bit_stuffing.specs.Source.{BitSource};
-ghost use Rattle.bit_stuffing.specs.State.{Opens, source_of};
+ghost use Rattle.bit_stuffing.specs.Inside.{Opens, source_of};
 
 use crate::fault::BitFault;
 use crate::width::width_after;
 use std::marker::Model;
 
-/// A reader of the bits of a packet header (ISO/IEC 15444-1, B.10.1), which leaves out the high bit of
-/// each byte behind FF. In a contract it has the `bytes` that it was given, the bits that were `taken`,
-/// and those that are still `ahead`.
+/// A reader of the bits of a packet header (ISO/IEC 15444-1, B.10.1), which leaves out the high bit
+/// of each byte after FF. In a contract it has the `bytes` that it was given, the bits that were
+/// `taken`, and those that are still `ahead`.
 #[derive(Drop)]
 pub struct BitIn<'a> {
     bytes: &'a [u8],
-    // how many bytes are opened, the last of them, and how many of its low bits are left
+    /// how many bytes are opened, the last of them, and how many of its low bits are left
     opened: u32,
     last: u8,
     left: u8,
@@ -42,8 +43,8 @@ impl<'a> BitIn<'a> {
         }
     }
 
-    /// Takes the next bit. Where no bit is ahead, the reader stays as it was, and the fault says why: the bytes
-    /// end, or the byte behind an FF has its high bit set.
+    /// Takes the next bit. Where no bit is ahead, the reader stays as it was, and the fault says
+    /// why: the bytes end, or the byte after an FF has its high bit set.
     pub fn take(&mut self) -> Result<bool, BitFault>
         ensures same { self.new.bytes ≡ self.old.bytes }
         ensures bit { IfOk result (λ bit. self.old.ahead ≡ bit ∷ self.new.ahead) }
@@ -77,11 +78,13 @@ impl<'a> BitIn<'a> {
         if self.opened == 0 { 0 } else { self.opened - 1 }
     }
 
-    /// How many bytes the bits taken fill, with their padding and the byte behind a last FF. It fails where
-    /// that byte is wanting or has its high bit set.
+    /// How many bytes the bits taken fill, with their padding and the byte after a last FF. It
+    /// fails where that byte is missing or has its high bit set.
     pub fn finish(self) -> Result<u32, BitFault>
-        ensures used { IfOk result (λ used. (used ≤ length self.entry.bytes) × Stuffs self.entry.taken (take used self.entry.bytes)) }
-        ensures only { (used : ℕ) → used ≤ length self.entry.bytes → Stuffs self.entry.taken (take used self.entry.bytes) → result ≡ Ok used }
+        ensures used { IfOk result (λ used. (used ≤ length self.entry.bytes)
+            × Stuffs self.entry.taken (take used self.entry.bytes)) }
+        ensures only { (used : ℕ) → used ≤ length self.entry.bytes →
+            Stuffs self.entry.taken (take used self.entry.bytes) → result ≡ Ok used }
         ensures fault { IfErr result (λ fault. fault ≡ fault_of self.entry.bytes) }
     {
         if self.last != 0xff {

@@ -3,7 +3,7 @@ ghost use Rattle.std.specs.Prelude.{◌≡◌, ◌<◌, [], ◌∷◌, ◌++◌,
 ghost use Rattle.std.specs.Prelude.{List, Bool, false};
 ghost use Rattle.bit_stuffing.specs.Bits.{number, useful};
 ghost use Rattle.bit_stuffing.specs.Stuffing.{packed, Stuffs};
-ghost use Rattle.bit_stuffing.specs.State.{Keeps};
+ghost use Rattle.bit_stuffing.specs.Inside.{Keeps};
 
 use crate::bit_register::{held_with, high_byte, low_bits};
 use crate::bit_sink::BitSink;
@@ -16,10 +16,10 @@ use std::marker::Model;
 #[derive(Drop)]
 pub struct BitOut {
     bytes: ArrayVec<u8, 1024>,
-    // the bits of the byte begun, and how many there are
+    /// the bits of the byte begun, and how many there are
     part: u8,
     filled: u8,
-    // how many bits the byte begun holds: 7 behind FF, else 8
+    /// how many bits the byte begun holds: 7 after FF, else 8
     width: u8,
 }
 
@@ -44,7 +44,7 @@ impl BitOut {
         }
     }
 
-    /// Puts a bit behind those that were put.
+    /// Puts a bit after those that were put.
     pub fn put(&mut self, bit: bool)
         requires { length self.old < 7000 }
         ensures { self.new ≡ self.old ++ bit ∷ [] }
@@ -61,8 +61,8 @@ impl BitOut {
         }
     }
 
-    /// The header's bytes: the bits from the high bit of each byte down, a 0 in front of each byte behind
-    /// FF, the last byte filled up with zeros, and a byte 0 behind a last FF.
+    /// The header's bytes: the bits from the high bit of each byte down, a 0 before each byte after
+    /// FF, the last byte filled up with zeros, and a byte 0 after a last FF.
     pub fn finish(self) -> ArrayVec<u8, 1024>
         ensures bytes { result.items ≡ packed self }
         ensures stuffed { Stuffs self result.items }

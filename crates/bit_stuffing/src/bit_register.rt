@@ -1,8 +1,8 @@
-// The bits behind whole bytes, as a number.
+// The bits after whole bytes, as a number.
 ghost use Rattle.std.specs.Prelude.{◌≡◌, ◌+◌, ◌*◌, ◌/◌, ◌%◌, ◌<◌, ◌≤◌, ◌^◌, ◌↔◌, IsTrue};
-ghost use Rattle.bit_stuffing.specs.State.{HasNoFf};
+ghost use Rattle.bit_stuffing.specs.Inside.{HasNoFf};
 
-// The bits of a byte begun, and those of a number behind them.
+/// The bits of a byte begun, and those of a number after them.
 #[inline]
 pub fn held_with(part: u32, width: u32, value: u64) -> u64
     requires part { part < 256 }
@@ -13,7 +13,7 @@ pub fn held_with(part: u32, width: u32, value: u64) -> u64
     (u64::from(part) << width) + value
 }
 
-// All bits but the low ones, which fill a byte.
+/// All bits but the low ones, which fill a byte.
 #[inline]
 pub fn high_byte(held: u64, left: u32) -> u8
     requires left { left ≤ 57 }
@@ -23,7 +23,7 @@ pub fn high_byte(held: u64, left: u32) -> u8
     (held >> left) as u8
 }
 
-// The byte that ends in front of so many low bits.
+/// The byte that ends before so many low bits.
 #[inline]
 pub fn byte_at(held: u64, left: u32) -> u8
     requires left { left ≤ 57 }
@@ -32,7 +32,7 @@ pub fn byte_at(held: u64, left: u32) -> u8
     (held >> left & 0xff) as u8
 }
 
-// The four bytes that end in front of so many low bits.
+/// The four bytes that end before so many low bits.
 #[inline]
 pub fn word_at(held: u64, left: u32) -> u64
     requires left { left ≤ 57 }
@@ -41,7 +41,7 @@ pub fn word_at(held: u64, left: u32) -> u64
     held >> left & 0xffff_ffff
 }
 
-// The low bits.
+/// The low bits.
 #[inline]
 pub fn low_bits(held: u64, left: u32) -> u64
     requires left { left ≤ 57 }
@@ -50,8 +50,8 @@ pub fn low_bits(held: u64, left: u32) -> u64
     held & ((1 << left) - 1)
 }
 
-// Whether none of four bytes is FF: in each the low seven bits and 1 reach the high bit, which is set too,
-// only where all are set.
+/// Whether none of four bytes is FF: in each the low seven bits and 1 reach the high bit, which is
+/// set too, only where all are set.
 #[inline]
 pub fn has_no_ff(word: u64) -> bool
     requires { word < 2 ^ 32 }

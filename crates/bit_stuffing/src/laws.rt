@@ -1,5 +1,5 @@
-// Laws of the definitions, for the crates above: a call of one of these functions, which do nothing,
-// gives the caller its clause.
+// Laws of the definitions, for the crates above: a call of one of these functions, which do
+// nothing, gives the caller its clause.
 ghost use Rattle.std.specs.Prelude.{Bool, List};
 ghost use Rattle.bit_stuffing.specs.Stuffing.{packed, Stuffs};
 

@@ -82,7 +82,7 @@ fn counts_four_bytes_at_a_time(rt: HostRuntime) {
     count.put_number(32, 0x0102_ff04);
     assert_eq!(rt; count.finish(), 5);
 
-    // 01 02 03 FF 40, as the last bit stands behind a stuffed 0
+    // 01 02 03 FF 40, as the last bit stands after a stuffed 0
     count = BitCount::new();
     count.put_number(33, 0x0204_07ff);
     assert_eq!(rt; count.finish(), 5);

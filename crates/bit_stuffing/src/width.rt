@@ -2,7 +2,7 @@
 ghost use Rattle.std.specs.Prelude.{◌≡◌, ◌==◌};
 ghost use Rattle.bit_stuffing.specs.Bits.{byte_width};
 
-// 7 behind a byte FF, whose follower has a stuffed 0, else 8.
+/// 7 after a byte FF, whose follower has a stuffed 0, else 8.
 pub fn width_after(byte: u8) -> u8
     ensures { result ≡ byte_width (byte == 255) }
 {

@@ -9,7 +9,7 @@ pub mod PassLemmas
 pub mod BlockLemmas
 pub mod NodePaths
 pub mod MarkLemmas
-pub mod AboveLemmas
+pub mod InnerNodeLemmas
 pub mod BandLemmas
 pub mod EntryLemmas
 pub mod HeaderLemmas

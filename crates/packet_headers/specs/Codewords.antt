@@ -1,5 +1,7 @@
--- The numbers of a block in a packet header: coding passes (ISO/IEC 15444-1, Table B.4) and length (B.10.7).
-use Rattle.std.specs.Prelude.{ℕ, ◌+◌, ◌-◌, nat_le, Bool, true, false, if◌then◌else◌, List, [], ◌∷◌, ◌++◌, replicate}
+-- The numbers of a block in a packet header: coding passes (ISO/IEC 15444-1, Table B.4) and length
+-- (B.10.7).
+use Rattle.std.specs.Prelude.{ℕ, ◌+◌, ◌-◌, nat_le, Bool, true, false, if◌then◌else◌, List, [], ◌∷◌}
+use Rattle.std.specs.Prelude.{◌++◌, replicate}
 use Rattle.cine_nums.specs.Bits.{bit_len}
 use Rattle.bit_stuffing.specs.Bits.{number}
 
@@ -16,13 +18,15 @@ pass_bits passes =
 abbrev pub log2 : ℕ → ℕ
 log2 n = bit_len n - 1
 
--- how many bits a length has: Lblock, which starts at 3 and has been raised so often, and the logarithm of the passes
+-- how many bits a length has: Lblock, which starts at 3 and has been raised so often, and the
+-- logarithm of the passes
 abbrev pub length_width : ℕ → ℕ → ℕ
 length_width passes raise = 3 + raise + log2 passes
 
 -- the bits of a length: a 1 for each time that Lblock is raised, a 0, and the length itself
 unfoldable pub length_bits : ℕ → ℕ → ℕ → List Bool
-length_bits passes raise len = replicate raise true ++ false ∷ number (length_width passes raise) len
+length_bits passes raise len = replicate raise true
+    ++ false ∷ number (length_width passes raise) len
 
 -- the least raise that lets the length fit
 abbrev pub least_raise : ℕ → ℕ → ℕ

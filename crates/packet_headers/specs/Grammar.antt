@@ -1,15 +1,20 @@
--- Which words spell a packet of a shape, and the bits of a header at which reading stops (ISO/IEC 15444-1, B.10).
-use Rattle.std.specs.Prelude.{◌≡◌, ℕ, ◌+◌, ◌-◌, ◌*◌, ◌^◌, ◌<◌, ◌≤◌, Bool, true, false, List, [], ◌∷◌, ◌++◌, length}
+-- Which words spell a packet of a shape, and the bits of a header at which reading stops (ISO/IEC
+-- 15444-1, B.10).
+use Rattle.std.specs.Prelude.{◌≡◌, ℕ, ◌+◌, ◌-◌, ◌*◌, ◌^◌, ◌<◌, ◌≤◌, Bool, true, false, List, []}
+use Rattle.std.specs.Prelude.{◌∷◌, ◌++◌, length}
 use Rattle.tag_trees.specs.TagTree.{IsNumbering}
 use Rattle.packet_headers.specs.declared.packet.BandShape.{BandShape}
 use Rattle.packet_headers.specs.Codewords.{pass_bits, length_width}
-use Rattle.packet_headers.specs.Words.{BlockWords, BandTrees, BandWords, PacketWords, leaf_at, inclusion_bits, zero_plane_bits, blocks_bits, bands_bits}
+use Rattle.packet_headers.specs.Words.{BlockWords, BandTrees, BandWords, PacketWords, leaf_at}
+use Rattle.packet_headers.specs.Words.{inclusion_bits, zero_plane_bits, blocks_bits, bands_bits}
 
--- the most coding passes of a block with so many zero planes: a cleanup pass, and three for each further plane
+-- the most coding passes of a block with so many zero planes: a cleanup pass, and three for each
+-- further plane
 abbrev pub most_passes : ℕ → ℕ → ℕ
 most_passes planes zero_planes = 3 * (planes - zero_planes) - 2
 
--- a block at this place is included, with at most the passes that its planes give, and a length that its bits hold
+-- a block at this place is included, with at most the passes that its planes give, and a length
+-- that its bits hold
 pub record IsIncluded (trees : BandTrees) (planes place : ℕ) (block : BlockWords) : Type 0 where
   pub inclusion : trees.inclusion (leaf_at trees.width place) ≡ 0
   pub zero_planes : trees.zero_planes (leaf_at trees.width place) ≡ block.entry.zero_planes
@@ -66,7 +71,8 @@ unfoldable pub NoneOfBands : List BandWords → Type 0
 NoneOfBands [] = Unit {0}
 NoneOfBands (band ∷ bands) = NoneOf band.blocks × NoneOfBands bands
 
--- The words of a packet of these shapes: a first bit 0 leaves all blocks out. A first bit 1 may do so too.
+-- The words of a packet of these shapes: a first bit 0 leaves all blocks out. A first bit 1 may do
+-- so too.
 pub record WordsFit (shapes : List BandShape) (words : PacketWords) : Type 0 where
   pub bands : BandsFit shapes words.bands
   pub empty : words.begins ≡ false → NoneOfBands words.bands
@@ -78,10 +84,11 @@ pub record Stop : Type 0 where
   pub planes : ℕ
   pub blocks : List BlockWords
 
--- the bits up to the inclusion of the block behind them
+-- the bits up to the inclusion of the block after them
 abbrev pub stop_bits : Stop → List Bool
 stop_bits stop =
-    true ∷ (bands_bits stop.before ++ (blocks_bits stop.trees [] stop.blocks ++ inclusion_bits stop.trees stop.blocks))
+    true ∷ (bands_bits stop.before ++ (blocks_bits stop.trees [] stop.blocks
+    ++ inclusion_bits stop.trees stop.blocks))
 
 -- the number of zero planes of that block
 abbrev pub stop_zero_planes : Stop → ℕ
@@ -100,7 +107,7 @@ pub record StopFits (shapes : List BandShape) (stop : Stop) : Type 0 where
   pub blocks : BlocksFit stop.trees stop.planes 0 stop.blocks
   pub included : stop.trees.inclusion (leaf_at stop.trees.width (length stop.blocks)) ≡ 0
 
--- these bits end where a block's zero planes come to be all of the band's
+-- these bits end where a block's zero planes turn out to be all of the band's
 pub record ZeroStop (shapes : List BandShape) (bits : List Bool) : Type 0 where
   pub stop : Stop
   pub fits : StopFits shapes stop
@@ -115,4 +122,5 @@ pub record PassStop (shapes : List BandShape) (bits : List Bool) : Type 0 where
   pub fewer : stop_zero_planes stop < stop.planes
   pub too_many : most_passes stop.planes (stop_zero_planes stop) < passes
   pub coded : passes ≤ 164
-  pub bits_are : bits ≡ stop_bits stop ++ (zero_plane_bits stop.trees stop.blocks (stop_zero_planes stop + 1) ++ pass_bits passes)
+  pub bits_are : bits ≡ stop_bits stop
+      ++ (zero_plane_bits stop.trees stop.blocks (stop_zero_planes stop + 1) ++ pass_bits passes)

@@ -3,5 +3,5 @@ pub mod Words
 pub mod Grammar
 pub mod Written
 pub mod Reading
-pub mod ReadSteps
-pub mod WriterState
+pub mod InsideReading
+pub mod InsideWriting

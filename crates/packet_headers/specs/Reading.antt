@@ -2,11 +2,16 @@
 use Rattle.std.specs.Prelude.{◌≡◌, ℕ, ◌+◌, ◌<◌, ◌≤◌, List, ◌++◌, length, take, Bool, All}
 use Rattle.bit_stuffing.specs.Stuffing.{Stuffs, supply, fault_of, place_of}
 use Rattle.bit_stuffing.specs.declared.fault.BitFault.{BitFault}
-use Rattle.bit_stuffing.specs.declared.fault.BitFault.TheVariants.{OutOfBits, StuffedBitSet as StuffedBit}
+use Rattle.bit_stuffing.specs.declared.fault.BitFault.TheVariants.{OutOfBits}
+use Rattle.bit_stuffing.specs.declared.fault.BitFault.TheVariants.{StuffedBitSet as StuffedBit}
 use Rattle.packet_headers.specs.declared.packet.BandShape.{BandShape}
 use Rattle.packet_headers.specs.declared.packet.PacketRead.{PacketRead}
 use Rattle.packet_headers.specs.declared.refusal.PacketRefusal.{PacketRefusal}
-use Rattle.packet_headers.specs.declared.refusal.PacketRefusal.TheVariants.{HeaderTruncated, StuffedBitSet, ZeroPlanesTooMany, PassesTooMany, BodyTruncated}
+use Rattle.packet_headers.specs.declared.refusal.PacketRefusal.TheVariants.{HeaderTruncated}
+use Rattle.packet_headers.specs.declared.refusal.PacketRefusal.TheVariants.{StuffedBitSet}
+use Rattle.packet_headers.specs.declared.refusal.PacketRefusal.TheVariants.{ZeroPlanesTooMany}
+use Rattle.packet_headers.specs.declared.refusal.PacketRefusal.TheVariants.{PassesTooMany}
+use Rattle.packet_headers.specs.declared.refusal.PacketRefusal.TheVariants.{BodyTruncated}
 use Rattle.packet_headers.specs.Words.{PacketWords, header_words, packet_of, body_of}
 use Rattle.packet_headers.specs.Grammar.{WordsFit, ZeroStop, PassStop}
 
@@ -21,7 +26,8 @@ abbrev pub CanRead : List BandShape → Type 0
 CanRead shapes = All CanReadBand shapes
 
 -- so many of the bytes are a header of these words
-pub record HasHeader (shapes : List BandShape) (words : PacketWords) (bytes : List ℕ) (header : ℕ) : Type 0 where
+pub record HasHeader (shapes : List BandShape) (words : PacketWords) (bytes : List ℕ) (header : ℕ) :
+    Type 0 where
   pub fits : WordsFit shapes words
   pub within : header ≤ length bytes
   pub stuffed : Stuffs (header_words words) (take header bytes)
@@ -34,7 +40,8 @@ pub record Found (shapes : List BandShape) (bytes : List ℕ) (found : PacketRea
   pub body : found.body ≡ body_of words
   pub room : found.header + found.body ≤ length bytes
 
--- a beginning of the bits that can be taken stops reading, and its last bit is in the byte of this place
+-- a beginning of the bits that can be taken stops reading, and its last bit is in the byte of this
+-- place
 pub record StopsAt (stops : List Bool → Type 0) (bytes : List ℕ) (place : ℕ) : Type 0 where
   pub bits : List Bool
   pub rest : List Bool
@@ -49,7 +56,7 @@ pub record EndsEarly (shapes : List BandShape) (bytes : List ℕ) (fault : BitFa
   pub no_pass_stop : (place : ℕ) → StopsAt (PassStop shapes) bytes place → ⊥
   pub fault_is : fault_of bytes ≡ fault
 
--- the header is whole, and the bytes behind it are fewer than the body
+-- the header is whole, and the bytes after it are fewer than the body
 pub record BodyShort (shapes : List BandShape) (bytes : List ℕ) (place : ℕ) : Type 0 where
   pub words : PacketWords
   pub header : ℕ

@@ -1,5 +1,7 @@
--- The writer's header of a packet: the least numbers, the least raises, and a 0 alone where no block is included.
-use Rattle.std.specs.Prelude.{ℕ, ◌*◌, ◌<◌, ◌≤◌, ◌≡◌, Bool, false, IsTrue, if◌then◌else◌, List, length, map, All}
+-- The writer's header of a packet: the least numbers, the least raises, and a 0 alone where no
+-- block is included.
+use Rattle.std.specs.Prelude.{ℕ, ◌*◌, ◌<◌, ◌≤◌, ◌≡◌, Bool, false, IsTrue, if◌then◌else◌, List}
+use Rattle.std.specs.Prelude.{length, map, All}
 use Rattle.std.specs.List.{list_any}
 use Rattle.tag_trees.specs.TagTree.{least}
 use Rattle.packet_headers.specs.declared.entry.Entry.{Entry}
@@ -10,7 +12,8 @@ use Rattle.packet_headers.specs.Codewords.{least_raise}
 use Rattle.packet_headers.specs.Words.{BlockWords, BandTrees, BandWords, PacketWords, header_words}
 use Rattle.packet_headers.specs.Grammar.{most_passes}
 
--- the leaf values of the two trees: 0 for an included block and 1 for another; its zero planes, and all planes for another
+-- the leaf values of the two trees: 0 for an included block and 1 for another; its zero planes, and
+-- all planes for another
 abbrev pub inclusion_value : Entry → ℕ
 inclusion_value entry = if entry.included then 0 else 1
 
@@ -29,7 +32,12 @@ written_trees band = record {
 }
 
 abbrev pub written_band : PacketBand → BandWords
-written_band band = record { trees = written_trees band; planes = band.planes; blocks = map written_block band.entries.items }
+written_band band = record {
+  trees = written_trees band;
+  planes = band.planes;
+  blocks =
+      map written_block band.entries.items;
+}
 
 -- whether any block is included
 abbrev pub band_has_any : PacketBand → Bool

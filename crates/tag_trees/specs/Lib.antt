@@ -1,3 +1,3 @@
 pub mod TagTree
-pub mod NodeStep
 pub mod TreeState
+pub mod Inside

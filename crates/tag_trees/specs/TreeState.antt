@@ -1,9 +1,9 @@
 -- What a tag tree of bounds stands for.
-use Rattle.std.specs.Prelude.{◌≡◌, ℕ, suc, zero, ◌+◌, ◌*◌, ◌/◌, ◌%◌, ◌<◌, ◌≤◌, ◌==◌, max, nat_lt, Bool, true, false, if◌then◌else◌, List, get_or}
+use Rattle.std.specs.Prelude.{◌≡◌, ℕ, suc, zero, ◌+◌, ◌*◌, ◌/◌, ◌%◌, ◌<◌, ◌≤◌, ◌==◌, max, nat_lt}
+use Rattle.std.specs.Prelude.{Bool, true, false, if◌then◌else◌, List, get_or}
 use Rattle.tag_trees.specs.TagTree.{Writing, levels_above, largest, IsNumbering}
 use Rattle.tag_trees.specs.declared.tree.Tree.{Tree}
 use Rattle.tag_trees.specs.declared.node.Node.{Node}
-use Rattle.tag_trees.specs.NodeStep.{AllowsValue, IsStep, step_bits}
 
 -- the sides, in leaves, and the levels above the leaves
 abbrev pub width_of : Tree → ℕ
@@ -38,43 +38,42 @@ unfoldable pub parent_of : ℕ → ℕ
 parent_of node = if nat_lt node 16 then 16 + (2 * (node / 8) + node % 4 / 2) else 20
 
 -- what a parent has, and at the root this
-abbrev pub above : {A : Type 0} → ℕ → A → (ℕ → A) → ℕ → A
-above levels none of node = if node == root_of levels then none else of (parent_of node)
+abbrev pub of_parent : {A : Type 0} → ℕ → A → (ℕ → A) → ℕ → A
+of_parent levels none of node = if node == root_of levels then none else of (parent_of node)
 
--- What a node keeps whose largest threshold is `earlier`: its value where that is known, which comes only
--- below a known parent; else a bound that reaches the threshold, and no further than the parent's bound does.
+-- What a node keeps whose largest threshold is `earlier`: its value where that is known, which
+-- comes only below a known parent; else a bound that reaches the threshold, and no further than the
+-- parent's bound does.
 abbrev pub NodeStands : ℕ → Bool → ℕ → Bool → ℕ → Type 0
-NodeStands above_bound above_known bound true earlier = (bound < earlier) × (above_bound ≤ bound) × (above_known ≡ true)
-NodeStands above_bound above_known bound false earlier = (earlier ≤ bound) × (bound ≤ max earlier above_bound)
+NodeStands above_bound above_known bound true earlier = (bound < earlier) × (above_bound ≤ bound)
+    × (above_known ≡ true)
+NodeStands above_bound above_known bound false earlier = (earlier ≤ bound)
+    × (bound ≤ max earlier above_bound)
 
 -- the same at all nodes
 abbrev pub BoundsStand : ℕ → (ℕ → ℕ) → (ℕ → Bool) → (ℕ → ℕ) → Type 0
 BoundsStand levels bound known earlier =
-    (node : ℕ) → NodeStands (above levels 0 bound node) (above levels true known node) (bound node) (known node) (earlier node)
+    (node : ℕ) → NodeStands (of_parent levels 0 bound node) (of_parent levels true known node)
+    (bound node)
+    (known node) (earlier node)
 
 -- the tree's bounds are those of these writings or readings, whatever the numbering
 abbrev pub Stands : Tree → List Writing → Type 0
-Stands tree earlier = BoundsStand (levels_of tree) (bound_of tree) (known_of tree) (largest (levels_of tree) earlier)
+Stands tree earlier = BoundsStand (levels_of tree) (bound_of tree) (known_of tree)
+    (largest (levels_of tree) earlier)
+
+-- a node's value may be this
+abbrev pub AllowsValue : Bool → ℕ → ℕ → Type 0
+AllowsValue true bound value = value ≡ bound
+AllowsValue false bound value = bound ≤ value
 
 -- the nodes' values may be these: a known value is this one, another is at least its bound
 abbrev pub Allows : Tree → (ℕ → ℕ) → Type 0
 Allows tree value = (node : ℕ) → AllowsValue (known_of tree node) (bound_of tree node) (value node)
 
--- a tree that writes this numbering, behind these writings
+-- a tree that writes this numbering, after these writings
 pub record IsWritten (tree : Tree) (value : ℕ → ℕ) (earlier : List Writing) : Type 0 where
   pub values : (node : ℕ) → value_of tree node ≡ value node
   pub rising : IsNumbering (width_of tree) (height_of tree) value
   pub stands : Stands tree earlier
   pub allows : Allows tree value
-
--- one node of the tree has made a step, and nothing else has changed
-pub record NodeStep (old : Tree) (node start threshold : ℕ) (new : Tree) : Type 0 where
-  pub width : new.width ≡ old.width
-  pub height : new.height ≡ old.height
-  pub others : (n : ℕ) → (n ≡ node → ⊥) → node_of new n ≡ node_of old n
-  pub value : value_of new node ≡ value_of old node
-  pub step : IsStep (max (bound_of old node) start) threshold (known_of old node) (bound_of new node) (known_of new node)
-
--- its bits
-abbrev pub bits_of_step : Tree → ℕ → ℕ → Tree → List Bool
-bits_of_step old node start new = step_bits (max (bound_of old node) start) (known_of old node) (bound_of new node) (known_of new node)

@@ -1,7 +1,8 @@
 //! Tag trees of a packet header, written and read (ISO/IEC 15444-1, B.10.2).
 //!
-//! A `Tree` stands for the writings, or the readings, that it has seen: what it puts is the definition's
-//! bits after them, and it reads back what was written, whatever the numbering. Nothing takes memory.
+//! A `Tree` stands for the writings, or the readings, that it has seen: what it puts is the
+//! definition's bits after them, and it reads back what was written, whatever the numbering.
+//! Nothing takes memory.
 //!
 //! ```
 //! let mut out = BitOut::new();

@@ -4,8 +4,8 @@ ghost use Rattle.std.specs.Prelude.{◌≡◌, ℕ, ◌+◌, ◌*◌, ◌<◌, �
 use crate::node::Node;
 use bit_stuffing::{BitFault, BitIn, BitSink};
 
-/// A tag tree of at most 4 by 4 leaves (ISO/IEC 15444-1, B.10.2), to write or to read. In a contract its
-/// nodes are numbered as `path_of` says.
+/// A tag tree of at most 4 by 4 leaves (ISO/IEC 15444-1, B.10.2), to write or to read. In a
+/// contract its nodes are numbered as `path_of` says.
 #[derive(Clone, Copy)]
 pub struct Tree {
     width: u8,
@@ -14,19 +14,24 @@ pub struct Tree {
     ghost sides: { (width ≤ 4) × (height ≤ 4) },
 }
 
-// The node above the middle ones.
+/// The node above the middle ones.
 const TOP: usize = 20;
 
 impl Tree {
-    ghost use Rattle.std.specs.Prelude.{List, [], ◌∷◌, ◌++◌, Bool, length, min, max, nat_lt, ◌&&◌, ◌==◌, if◌then◌else◌, IfOk, IfErr, OnOk, IsOkAnd};
-    ghost use Rattle.tag_trees.specs.TagTree.{leaf_node, path_of, is_among, Writing, IsNumbering, bits_of_writing, least};
-    ghost use Rattle.tag_trees.specs.TreeState.{width_of, height_of, levels_of, node_of, bound_of, known_of, value_of, Stands, Allows, IsWritten, NodeStep, bits_of_step};
-    ghost use Rattle.tag_trees.specs.NodeStep.{AllowsValue, RunsOut};
+    ghost use Rattle.std.specs.Prelude.{List, [], ◌∷◌, ◌++◌, Bool, length, min, max, nat_lt, ◌&&◌};
+    ghost use Rattle.std.specs.Prelude.{◌==◌, if◌then◌else◌, IfOk, IfErr, OnOk, IsOkAnd};
+    ghost use Rattle.tag_trees.specs.TagTree.{leaf_node, path_of, is_among, Writing, IsNumbering};
+    ghost use Rattle.tag_trees.specs.TagTree.{bits_of_writing, least};
+    ghost use Rattle.tag_trees.specs.TreeState.{width_of, height_of, levels_of, node_of, bound_of};
+    ghost use Rattle.tag_trees.specs.TreeState.{known_of, value_of, Stands, Allows, IsWritten};
+    ghost use Rattle.tag_trees.specs.Inside.{NodeStep, bits_of_step};
+    ghost use Rattle.tag_trees.specs.TreeState.{AllowsValue};
+    ghost use Rattle.tag_trees.specs.Inside.{RunsOut};
     ghost use Rattle.bit_stuffing.specs.Source.{Took};
     ghost use Rattle.bit_stuffing.specs.Stuffing.{fault_of};
 
-    /// A tree to write, of these sides in leaves, at most 4. Each leaf has its value, in raster order, and a
-    /// node above the leaves has the least value of those under it.
+    /// A tree to write, of these sides in leaves, at most 4. Each leaf has its value, in raster
+    /// order, and a node above the leaves has the least value of those under it.
     pub fn of(width: u8, height: u8, values: &[u8]) -> Tree
         requires width { width ≤ 4 }
         requires height { height ≤ 4 }
@@ -62,7 +67,7 @@ impl Tree {
         }
     }
 
-    // How many levels of nodes stand above the leaves.
+    /// How many levels of nodes stand above the leaves.
     fn levels(&self) -> u8
         ensures { result ≡ levels_of self.now }
     {
@@ -76,11 +81,13 @@ impl Tree {
         }
     }
 
-    // Brings the values of a leaf and of the nodes above it down to this one.
+    /// Brings the values of a leaf and of the nodes above it down to this one.
     fn lower(&mut self, column: usize, row: usize, value: u8)
         requires column { column < 4 }
         requires row { row < 4 }
-        ensures values { (n : ℕ) → value_of self.new n ≡ (if is_among (path_of 2 column row) n then min value (value_of self.old n) else value_of self.old n) }
+        ensures values { (n : ℕ) → value_of self.new n
+            ≡ (if is_among (path_of 2 column row) n then min value (value_of self.old n)
+            else value_of self.old n) }
         ensures bounds { (n : ℕ) → bound_of self.new n ≡ bound_of self.old n }
         ensures known { (n : ℕ) → known_of self.new n ≡ known_of self.old n }
         ensures width { width_of self.new ≡ width_of self.old }
@@ -93,7 +100,8 @@ impl Tree {
 
     fn lower_node(&mut self, node: usize, value: u8)
         requires { node < 21 }
-        ensures values { (n : ℕ) → value_of self.new n ≡ (if node == n then min value (value_of self.old n) else value_of self.old n) }
+        ensures values { (n : ℕ) → value_of self.new n
+            ≡ (if node == n then min value (value_of self.old n) else value_of self.old n) }
         ensures bounds { (n : ℕ) → bound_of self.new n ≡ bound_of self.old n }
         ensures known { (n : ℕ) → known_of self.new n ≡ known_of self.old n }
         ensures width { width_of self.new ≡ width_of self.old }
@@ -106,9 +114,9 @@ impl Tree {
         };
     }
 
-    /// Writes the leaf of this column and row up to a threshold of at most 32, behind the earlier writings:
-    /// the bits of the nodes from the root down to the leaf, in which they come to say whether its value is
-    /// below the threshold.
+    /// Writes the leaf of this column and row up to a threshold of at most 32, after the earlier
+    /// writings: the bits of the nodes from the root down to the leaf, in which they come to say
+    /// whether its value is below the threshold.
     pub fn write_upto<S: BitSink>(&mut self, x: u8, y: u8, threshold: u8, out: &mut S)
         requires column { x < width_of self.old }
         requires row { y < height_of self.old }
@@ -118,11 +126,16 @@ impl Tree {
         ensures height { height_of self.new ≡ height_of self.old }
 
         // whatever numbering and writings the tree stands for, and bits the sink
-        ensures bits { (value : ℕ → ℕ) (earlier : List Writing) (bits : List Bool) → IsWritten self.old value earlier → S.StandsFor out.old bits →
-            S.StandsFor out.new (bits ++ bits_of_writing (levels_of self.old) value earlier (record { column = x; row = y; threshold = threshold })) }
-        ensures written { (value : ℕ → ℕ) (earlier : List Writing) → IsWritten self.old value earlier →
-            IsWritten self.new value (earlier ++ (record { column = x; row = y; threshold = threshold }) ∷ []) }
-        ensures few { (value : ℕ → ℕ) (earlier : List Writing) → IsWritten self.old value earlier → S.bit_count out.new ≤ S.bit_count out.old + (threshold + 3) }
+        ensures bits { (value : ℕ → ℕ) (earlier : List Writing) (bits : List Bool) →
+            IsWritten self.old value earlier → S.StandsFor out.old bits →
+            S.StandsFor out.new (bits ++ bits_of_writing (levels_of self.old) value earlier
+            (record { column = x; row = y; threshold = threshold })) }
+        ensures written { (value : ℕ → ℕ) (earlier : List Writing) →
+            IsWritten self.old value earlier →
+            IsWritten self.new value (earlier
+            ++ (record { column = x; row = y; threshold = threshold }) ∷ []) }
+        ensures few { (value : ℕ → ℕ) (earlier : List Writing) → IsWritten self.old value earlier →
+            S.bit_count out.new ≤ S.bit_count out.old + (threshold + 3) }
         ensures most { S.bit_count out.new ≤ S.bit_count out.old + 99 }
     {
         let leaf = 4 * y as usize + x as usize;
@@ -142,8 +155,9 @@ impl Tree {
         self.write_node(leaf, start, threshold, out);
     }
 
-    /// Reads the leaf of this column and row up to a threshold of at most 32, behind the earlier readings, and
-    /// answers whether its value is below the threshold. After a fault the tree and the bits may stand anywhere.
+    /// Reads the leaf of this column and row up to a threshold of at most 32, after the earlier
+    /// readings, and returns whether its value is below the threshold. After a fault the tree and
+    /// the bits may stand anywhere.
     pub fn read_upto(
         &mut self,
         x: u8,
@@ -157,21 +171,29 @@ impl Tree {
         ensures width { width_of self.new ≡ width_of self.old }
         ensures height { height_of self.new ≡ height_of self.old }
         ensures stands { (earlier : List Writing) → Stands self.old earlier →
-            OnOk result (Stands self.new (earlier ++ (record { column = x; row = y; threshold = threshold }) ∷ [])) }
+            OnOk result (Stands self.new (earlier
+            ++ (record { column = x; row = y; threshold = threshold }) ∷ [])) }
 
         // what was written by a numbering that is still allowed is read back, whatever follows
         ensures reads { (value : ℕ → ℕ) (earlier : List Writing) (rest : List Bool) →
-            IsNumbering (width_of self.old) (height_of self.old) value → Stands self.old earlier → Allows self.old value →
-            bits.old.ahead ≡ bits_of_writing (levels_of self.old) value earlier (record { column = x; row = y; threshold = threshold }) ++ rest →
-            IsOkAnd result (λ below. (below ≡ nat_lt (value (leaf_node x y)) threshold) × (bits.new.ahead ≡ rest) × Allows self.new value) }
+            IsNumbering (width_of self.old) (height_of self.old) value → Stands self.old earlier →
+            Allows self.old value →
+            bits.old.ahead ≡ bits_of_writing (levels_of self.old) value earlier
+            (record { column = x; row = y; threshold = threshold }) ++ rest →
+            IsOkAnd result (λ below. (below ≡ nat_lt (value (leaf_node x y)) threshold)
+            × (bits.new.ahead ≡ rest) × Allows self.new value) }
 
         // what is read is what each numbering writes that is allowed afterwards
         ensures read { (value : ℕ → ℕ) (earlier : List Writing) →
-            IsNumbering (width_of self.old) (height_of self.old) value → Stands self.old earlier → OnOk result (Allows self.new value) →
-            IfOk result (λ below. (below ≡ nat_lt (value (leaf_node x y)) threshold) × Allows self.old value
-            × Took bits.old (bits_of_writing (levels_of self.old) value earlier (record { column = x; row = y; threshold = threshold })) bits.new) }
+            IsNumbering (width_of self.old) (height_of self.old) value → Stands self.old earlier →
+            OnOk result (Allows self.new value) →
+            IfOk result (λ below. (below ≡ nat_lt (value (leaf_node x y)) threshold)
+            × Allows self.old value
+            × Took bits.old (bits_of_writing (levels_of self.old) value earlier
+            (record { column = x; row = y; threshold = threshold })) bits.new) }
         ensures same { bits.new.bytes ≡ bits.old.bytes }
-        ensures fault { IfErr result (λ fault. (fault ≡ fault_of bits.old.bytes) × (bits.new.ahead ≡ [])) }
+        ensures fault { IfErr result (λ fault. (fault ≡ fault_of bits.old.bytes)
+            × (bits.new.ahead ≡ [])) }
     {
         let leaf = 4 * y as usize + x as usize;
         let middle = 16 + (2 * (y as usize / 2) + x as usize / 2);
@@ -188,7 +210,7 @@ impl Tree {
         self.read_leaf(leaf, start, threshold, bits)
     }
 
-    // The last node of a reading; answers whether its value is known to be below the threshold.
+    /// The last node of a reading; returns whether its value is known to be below the threshold.
     fn read_leaf(
         &mut self,
         leaf: usize,
@@ -199,11 +221,15 @@ impl Tree {
         requires leaf { leaf < 21 }
         requires threshold { threshold ≤ 32 }
         ensures step { OnOk result (NodeStep self.old leaf start threshold self.new) }
-        ensures took { OnOk result (Took bits.old (bits_of_step self.old leaf start self.new) bits.new) }
-        ensures below { IfOk result (λ below. below ≡ (known_of self.new leaf && nat_lt (bound_of self.new leaf) threshold)) }
+        ensures took { OnOk result (Took bits.old (bits_of_step self.old leaf start self.new)
+            bits.new) }
+        ensures below { IfOk result (λ below. below ≡ (known_of self.new leaf
+            && nat_lt (bound_of self.new leaf) threshold)) }
         ensures same { bits.new.bytes ≡ bits.old.bytes }
-        ensures fault { IfErr result (λ fault. (fault ≡ fault_of bits.old.bytes) × (bits.new.ahead ≡ [])) }
-        ensures ends { IfErr result (λ fault. RunsOut bits.old.ahead (max (bound_of self.old leaf) start) threshold (known_of self.old leaf)) }
+        ensures fault { IfErr result (λ fault. (fault ≡ fault_of bits.old.bytes)
+            × (bits.new.ahead ≡ [])) }
+        ensures ends { IfErr result (λ fault. RunsOut bits.old.ahead
+            (max (bound_of self.old leaf) start) threshold (known_of self.old leaf)) }
         ensures width { width_of self.new ≡ width_of self.old }
         ensures height { height_of self.new ≡ height_of self.old }
     {
@@ -211,16 +237,19 @@ impl Tree {
         Ok(self.nodes[leaf].is_below(threshold))
     }
 
-    // One node of a writing; answers the bound that it then has.
+    /// One node of a writing; returns the bound that it then has.
     fn write_node<S: BitSink>(&mut self, node: usize, start: u8, threshold: u8, out: &mut S) -> u8
         requires node { node < 21 }
         requires threshold { threshold ≤ 32 }
         requires room { S.bit_count out.old + 100 ≤ 7000 }
         ensures step { NodeStep self.old node start threshold self.new }
-        ensures bits { (bits : List Bool) → S.StandsFor out.old bits → S.StandsFor out.new (bits ++ bits_of_step self.old node start self.new) }
-        ensures count { S.bit_count out.new ≡ S.bit_count out.old + length (bits_of_step self.old node start self.new) }
+        ensures bits { (bits : List Bool) → S.StandsFor out.old bits →
+            S.StandsFor out.new (bits ++ bits_of_step self.old node start self.new) }
+        ensures count { S.bit_count out.new ≡ S.bit_count out.old
+            + length (bits_of_step self.old node start self.new) }
         ensures few { S.bit_count out.new ≤ S.bit_count out.old + 33 }
-        ensures allowed { AllowsValue (known_of self.old node) (max (bound_of self.old node) start) (value_of self.old node) →
+        ensures allowed { AllowsValue (known_of self.old node) (max (bound_of self.old node) start)
+            (value_of self.old node) →
             AllowsValue (known_of self.new node) (bound_of self.new node) (value_of self.old node) }
         ensures bound { result ≡ bound_of self.new node }
     {
@@ -229,7 +258,7 @@ impl Tree {
         kept.bound
     }
 
-    // One node of a reading; answers the bound that it then has.
+    /// One node of a reading; returns the bound that it then has.
     fn read_node(
         &mut self,
         node: usize,
@@ -240,11 +269,14 @@ impl Tree {
         requires node { node < 21 }
         requires threshold { threshold ≤ 32 }
         ensures step { OnOk result (NodeStep self.old node start threshold self.new) }
-        ensures took { OnOk result (Took bits.old (bits_of_step self.old node start self.new) bits.new) }
+        ensures took { OnOk result (Took bits.old (bits_of_step self.old node start self.new)
+            bits.new) }
         ensures bound { IfOk result (λ bound. bound ≡ bound_of self.new node) }
         ensures same { bits.new.bytes ≡ bits.old.bytes }
-        ensures fault { IfErr result (λ fault. (fault ≡ fault_of bits.old.bytes) × (bits.new.ahead ≡ [])) }
-        ensures ends { IfErr result (λ fault. RunsOut bits.old.ahead (max (bound_of self.old node) start) threshold (known_of self.old node)) }
+        ensures fault { IfErr result (λ fault. (fault ≡ fault_of bits.old.bytes)
+            × (bits.new.ahead ≡ [])) }
+        ensures ends { IfErr result (λ fault. RunsOut bits.old.ahead
+            (max (bound_of self.old node) start) threshold (known_of self.old node)) }
         ensures width { width_of self.new ≡ width_of self.old }
         ensures height { height_of self.new ≡ height_of self.old }
     {

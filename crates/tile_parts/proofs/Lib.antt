@@ -1,3 +1,6 @@
-pub mod HeadLemmas
-pub mod ReadingLemmas
+pub mod NumberLemmas
+pub mod SotLemmas
+pub mod SegmentLemmas
 pub mod SpellingLemmas
+pub mod OnceLemmas
+pub mod HeadLemmas

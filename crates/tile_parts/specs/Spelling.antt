@@ -13,19 +13,19 @@ pub record IsSegment (s : Segment) : Type 0 where
 
 -- the head of a tile-part with these segments
 abbrev pub head_with : ℕ → ℕ → ℕ → List Segment → List ℕ
-head_with length index told segments =
-    sot_bytes length index told ++ (flat_map segment_bytes segments ++ sod_bytes)
+head_with length index tnsot segments =
+    sot_bytes length index tnsot ++ (flat_map segment_bytes segments ++ sod_bytes)
 
--- The bytes from the place `at` on begin with this tile-part, the `index`-th of `count`: its head and its
--- body have Psot bytes together, and TNsot tells the count, or 0.
+-- The bytes from the place `at` on begin with this tile-part, the `index`-th of `count`: its head
+-- and its body have Psot bytes together, and TNsot is the count, or 0.
 pub record Spells (bytes : List ℕ) (at index count : ℕ) (part : Part) : Type 0 where
   pub segments : List Segment
-  pub told : ℕ
+  pub tnsot : ℕ
   pub packets : List ℕ
   pub rest : List ℕ
   pub each : All IsSegment segments
-  pub tells : (told ≡ count) ⊎ (told ≡ 0)
-  pub spelled : drop at bytes ≡ head_with part.length index told segments ++ (packets ++ rest)
-  pub psot_is : part.length ≡ length (head_with part.length index told segments) + length packets
-  pub body_is : part.body ≡ at + length (head_with part.length index told segments)
+  pub count_is : (tnsot ≡ count) ⊎ (tnsot ≡ 0)
+  pub spelled : drop at bytes ≡ head_with part.length index tnsot segments ++ (packets ++ rest)
+  pub psot_is : part.length ≡ length (head_with part.length index tnsot segments) + length packets
+  pub body_is : part.body ≡ at + length (head_with part.length index tnsot segments)
   pub stop_is : part.stop ≡ at + part.length

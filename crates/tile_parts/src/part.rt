@@ -2,9 +2,11 @@
 ghost use Rattle.std.specs.Prelude.{◌≡◌, ◌+◌, ◌≤◌, ◌<◌, ◌^◌, ℕ, length, slice_range};
 ghost use Rattle.std.specs.Prelude.{None, Some, Ok, Err, IfOk, IfErr, MatchResult};
 ghost use Rattle.cine_nums.specs.Bytes.{long_at};
-ghost use Rattle.tile_parts.specs.Head.{part_head_of};
-ghost use Rattle.tile_parts.specs.Reading.{sot_fault, marker_at, Ends, IsPart, IsFault};
+ghost use Rattle.cine_nums.specs.Faults.{first_fault};
+ghost use Rattle.tile_parts.specs.Head.{part_head_of, part_head_bytes};
 ghost use Rattle.tile_parts.specs.Spelling.{Spells};
+ghost use Rattle.tile_parts.specs.Refusals.{sot_rows, marker_rows, StandUpTo, IsRefused};
+ghost use Rattle.tile_parts.specs.Inside.{sot_at, IsSod, Stands};
 ghost use Rattle.tile_parts.specs.declared.refusal.PartRefusal.{PartRefusal};
 ghost use Rattle.tile_parts.specs.declared.part.Part.{Part};
 
@@ -19,53 +21,58 @@ const COM: u16 = 0xFF64;
 
 const PLT: u16 = 0xFF58;
 
-/// A tile-part of a string of bytes. Places are counted from the first byte of the whole.
+/// A tile-part of a string of bytes. Places are counted from the first byte of the whole, from 0.
 #[derive(Clone, Copy, Debug, PartialEq, Eq)]
 pub struct Part {
     /// Its bytes, from the marker SOT on.
     pub length: u32,
-    /// The place of the first byte of its body, behind SOD.
+    /// The place of the first byte of its body, after SOD.
     pub body: u32,
-    /// The place behind its last byte.
+    /// The place after its last byte.
     pub stop: u32,
 }
 
 /// Reads the head of the tile-part at the place `at`, which has to be the `index`-th, from 0 on, of
-/// `count`: the segment SOT, then any number of segments COM and PLT, and SOD.
+/// `count`: the segment SOT, then any number of segments COM and PLT, and SOD (ISO/IEC 15444-1,
+/// A.4.2, A.4.3, A.7.3, A.9.2). There are fewer than 2^32 bytes.
 ///
 /// Refused is the first fault, in this order:
-/// - `BadTilePart` where fewer than 12 bytes are left, there is no marker SOT, Lsot is not 10, or Isot
-///   is not 0 (places `at`, `at`, `at + 2`, `at + 4`);
+/// - `BadTilePart` where fewer than 12 bytes are left, there is no marker SOT, Lsot is not 10, or
+///   Isot is not 0 (places `at`, `at`, `at + 2`, `at + 4`);
 /// - `PsotZero` where Psot is 0 (`at + 6`);
-/// - `BadTilePart` where Psot is below 14 or reaches past the bytes (`at + 6`), TPsot is not `index`
-///   (`at + 10`), or TNsot is neither `count` nor 0 (`at + 11`);
-/// - then marker by marker up to SOD, with the place of that marker: `TilePartMarker` where it is none of
-///   COM, PLT and SOD, and `BadTilePart` where the marker or its segment ends past the end of the
-///   tile-part or the segment's length is below 2.
+/// - `BadTilePart` where Psot is below 14 or reaches past the bytes (`at + 6`), TPsot is not
+///   `index` (`at + 10`), or TNsot is neither `count` nor 0 (`at + 11`);
+/// - then marker by marker up to SOD, with the place of that marker: `TilePartMarker` where it is
+///   none of COM, PLT and SOD, and `BadTilePart` where the marker or its segment ends past the end
+///   of the tile-part or the segment's length is below 2.
 pub fn read_part(bytes: &[u8], at: u32, index: u8, count: u8) -> Result<Part, PartRefusal>
     requires inside { at ≤ length bytes.now }
     requires places { length bytes.now < 2 ^ 32 }
-    ensures cases { MatchResult result (IsPart bytes.now at index count) (IsFault bytes.now at index count) }
-    // Bytes have one reading at most, so that each answer comes exactly where it is right.
-    ensures part { (part : Part) → IsPart bytes.now at index count part → result ≡ Ok part }
-    ensures fault { (fault : PartRefusal) → IsFault bytes.now at index count fault → result ≡ Err fault }
     // It is a part exactly where the bytes spell one.
     ensures spelled { IfOk result (Spells bytes.now at index count) }
     ensures spells { (part : Part) → Spells bytes.now at index count part → result ≡ Ok part }
+    // Each refusal comes exactly where it is the first fault.
+    ensures refused { IfErr result (IsRefused bytes.now at index count) }
+    ensures faults { (fault : PartRefusal) → IsRefused bytes.now at index count fault →
+        result ≡ Err fault }
     // The writer's head is read back, whatever follows it.
-    ensures read_back { (size : ℕ) → 14 ≤ size → at + size ≤ length bytes.now →
-        slice_range bytes.now at (at + 14) ≡ part_head_of size index count →
-        result ≡ Ok (record { length = size; body = at + 14; stop = at + size }) }
+    ensures read_back { (size : ℕ) → part_head_bytes ≤ size → at + size ≤ length bytes.now →
+        slice_range bytes.now at (at + part_head_bytes) ≡ part_head_of size index count →
+        result ≡ Ok (record { length = size; body = at + part_head_bytes; stop = at + size }) }
 {
     read_head(bytes, at, index, count)
 }
 
-// Reads the head: a part, or the first fault.
+/// Reads the head: a part, or the first fault.
 fn read_head(bytes: &[u8], at: u32, index: u8, count: u8) -> Result<Part, PartRefusal>
     requires inside { at ≤ length bytes.now }
     requires places { length bytes.now < 2 ^ 32 }
-    ensures { MatchResult result (IsPart bytes.now at index count) (IsFault bytes.now at index count) }
+    ensures { MatchResult result (Spells bytes.now at index count)
+        (IsRefused bytes.now at index count) }
 {
+    if bytes.len() < at as usize + 12 {
+        return Err(PartRefusal::BadTilePart(at));
+    }
     let length = read_sot(bytes, at, index, count)?;
     let stop = at + length;
     let sod = find_sod(bytes, at + 12, stop)?;
@@ -76,18 +83,20 @@ fn read_head(bytes: &[u8], at: u32, index: u8, count: u8) -> Result<Part, PartRe
     })
 }
 
-// Reads the segment SOT, and answers Psot.
+/// Reads the segment SOT, and returns Psot.
 fn read_sot(bytes: &[u8], at: u32, index: u8, count: u8) -> Result<u32, PartRefusal>
-    requires inside { at ≤ length bytes.now }
+    requires room { at + 12 ≤ length bytes.now }
     requires places { length bytes.now < 2 ^ 32 }
     ensures psot { IfOk result (λ psot. psot ≡ long_at bytes.now (at + 6)) }
-    ensures ok { IfOk result (λ psot. sot_fault bytes.now at index count ≡ None) }
+    ensures ok { IfOk result (λ psot.
+        first_fault (sot_rows at (length bytes.now) index count (sot_at bytes.now at)) ≡ None) }
     ensures inside { IfOk result (λ psot. at + psot ≤ length bytes.now) }
     ensures some { IfOk result (λ psot. 14 ≤ psot) }
-    ensures fault { IfErr result (λ e. sot_fault bytes.now at index count ≡ Some e) }
+    ensures fault { IfErr result (λ e.
+        first_fault (sot_rows at (length bytes.now) index count (sot_at bytes.now at)) ≡ Some e) }
 {
     let place = at as usize;
-    if bytes.len() < place + 12 || word_at(bytes, place) != SOT {
+    if word_at(bytes, place) != SOT {
         return Err(PartRefusal::BadTilePart(at));
     }
     if word_at(bytes, place + 2) != 10 {
@@ -112,13 +121,14 @@ fn read_sot(bytes: &[u8], at: u32, index: u8, count: u8) -> Result<u32, PartRefu
     Ok(psot)
 }
 
-// Passes over the segments from a place on, and answers the place of SOD.
+/// Passes over the segments from a place on, and returns the place of SOD.
 fn find_sod(bytes: &[u8], from: u32, stop: u32) -> Result<u32, PartRefusal>
     requires inside { stop ≤ length bytes.now }
     requires some { from + 2 ≤ stop }
-    ensures sod { IfOk result (λ to. Ends bytes.now stop from to (Ok None)) }
-    ensures inside { IfOk result (λ to. to + 2 ≤ stop) }
-    ensures fault { IfErr result (λ e. (to : ℕ) × Ends bytes.now stop from to (Err e)) }
+    ensures stand { IfOk result (λ to. StandUpTo bytes.now from to) }
+    ensures sod { IfOk result (λ to. IsSod bytes.now to stop) }
+    ensures fault { IfErr result (λ e. (to : ℕ) × StandUpTo bytes.now from to × (to ≤ stop)
+        × (first_fault (marker_rows bytes.now to stop) ≡ Some e)) }
 {
     let mut at = from;
     while let Some(next) = marker(bytes, at, stop)? {
@@ -127,11 +137,12 @@ fn find_sod(bytes: &[u8], from: u32, stop: u32) -> Result<u32, PartRefusal>
     Ok(at)
 }
 
-// What stands in a marker's place: SOD, or a segment to pass over and the place behind it.
+/// What stands in a marker's place: SOD, or a segment to pass over and the place after it.
 fn marker(bytes: &[u8], at: u32, stop: u32) -> Result<Option<u32>, PartRefusal>
     requires inside { stop ≤ length bytes.now }
     requires place { at ≤ stop }
-    ensures value { result ≡ marker_at bytes.now stop at }
+    ensures found { IfOk result (Stands bytes.now at stop) }
+    ensures fault { IfErr result (λ e. first_fault (marker_rows bytes.now at stop) ≡ Some e) }
 {
     let place = at as usize;
     if stop - at < 2 {

@@ -1,7 +1,8 @@
 // Why a tile-part couldn't be read.
 use thiserror::Error;
 
-/// Why `read_part` refused the bytes. Each place is counted in bytes from the first byte of the whole.
+/// Why `read_part` refused the bytes. Each place is counted in bytes from the first byte of the
+/// whole.
 #[derive(Clone, Copy, Debug, PartialEq, Eq, Error)]
 pub enum PartRefusal {
     /// A field of SOT is not what it has to be, or a segment ends past the end of the tile-part.

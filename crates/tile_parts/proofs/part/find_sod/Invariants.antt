@@ -1,10 +1,10 @@
-use Rattle.std.proofs.Common.{◌≤◌, ◌-◌, ℕ}
-use Rattle.tile_parts.specs.Reading.{Passes}
+use Rattle.std.proofs.Common.{◌≤◌, ◌-◌}
+use Rattle.tile_parts.specs.Refusals.{StandUpTo}
 use Rattle.tile_parts.proofs.part.find_sod.Given as goal
 
 abbrev pub invariant-loop-next : goal.invariant-loop-next
 invariant-loop-next l = record {
-  passed : (n : ℕ) × Passes l.bytes l.stop n l.from l.at;
+  stand : StandUpTo l.bytes l.from l.at;
   inside : l.at ≤ l.stop;
 }
 

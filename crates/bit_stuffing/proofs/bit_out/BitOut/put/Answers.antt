@@ -1,19 +1,27 @@
-use Rattle.std.proofs.Common.{◌≡◌, ℕ, ◌+◌, ◌*◌, ◌<◌, ◌≤◌, Bool, false, List, [], ◌∷◌, ◌++◌, length, sym, ap, ◌∙◌, arith, append_assoc, length-append}
+use Rattle.std.proofs.Common.{◌≡◌, ℕ, ◌+◌, ◌*◌, ◌<◌, ◌≤◌, Bool, false, List, [], ◌∷◌, ◌++◌, length}
+use Rattle.std.proofs.Common.{sym, ap, ◌∙◌, arith, append_assoc, length-append}
 use Rattle.std.proofs.lemmas.List.{append-nil}
 use mir.Val.{bool_byte}
 use Rattle.bit_stuffing.specs.Bits.{number, useful}
-use Rattle.bit_stuffing.specs.State.{Keeps}
+use Rattle.bit_stuffing.specs.Inside.{Keeps}
 use Rattle.bit_stuffing.proofs.BitLemmas.{bit_of, bit_le, number-length, number-push, useful-push}
 use Rattle.bit_stuffing.proofs.PackLemmas.{keeps_more, keeps_whole, room_for_byte}
 use Rattle.bit_stuffing.proofs.bit_out.BitOut.put.Goals as goal
 
-few_before : (bytes : List ℕ) (part filled : ℕ) (bits : List Bool) → useful false bytes ++ number filled part ≡ bits → length bits < 7000
+few_before : (bytes : List ℕ) (part filled : ℕ) (bits : List Bool) → useful false bytes
+    ++ number filled part ≡ bits → length bits < 7000
     → length (useful false bytes) + filled < 7000
 few_before bytes part filled bits v h =
-    omega (arith, length-append (useful false bytes) (number filled part), number-length filled part, ap length v)
+    omega (
+      arith,
+      length-append (useful false bytes) (number filled part),
+      number-length filled part,
+      ap length v,
+    )
 
 -- the bits with one more
-more_bits : (bytes : List ℕ) (part filled n : ℕ) (b : Bool) (bits : List Bool) → n ≡ bool_byte b → useful false bytes ++ number filled part ≡ bits
+more_bits : (bytes : List ℕ) (part filled n : ℕ) (b : Bool) (bits : List Bool) → n ≡ bool_byte b
+    → useful false bytes ++ number filled part ≡ bits
     → useful false bytes ++ number (filled + 1) (part * 2 + n) ≡ bits ++ b ∷ []
 more_bits bytes part filled n b bits e v =
     ap (λ k. useful false bytes ++ number (filled + 1) (part * 2 + k)) (bit_of n b e)
@@ -22,8 +30,10 @@ more_bits bytes part filled n b bits e v =
     ∙ ap (λ r. r ++ b ∷ []) v
 
 -- the same where the byte is full
-whole_bits : (bytes items : List ℕ) (part filled width n : ℕ) (b : Bool) (bits : List Bool) → Keeps bytes part filled width → filled + 1 ≡ width
-    → items ≡ bytes ++ (part * 2 + n) ∷ [] → n ≡ bool_byte b → useful false bytes ++ number filled part ≡ bits
+whole_bits : (bytes items : List ℕ) (part filled width n : ℕ) (b : Bool) (bits : List Bool)
+    → Keeps bytes part filled width → filled + 1 ≡ width
+    → items ≡ bytes ++ (part * 2 + n) ∷ [] → n ≡ bool_byte b → useful false bytes
+    ++ number filled part ≡ bits
     → useful false items ++ number 0 0 ≡ bits ++ b ∷ []
 unfolding number
 whole_bits bytes items part filled width n b bits k w i e v =
@@ -59,4 +69,5 @@ returns-then-self c = more_bits _ _ _ _ _ _ c.from.ensures c.self.view_is
 pub returns-else-self : goal.returns-else-self
 returns-else-self c =
     let room = c.self.invariant.room in
-    whole_bits _ _ _ _ _ _ _ _ c.self.invariant (omega arith) c.push.ensures.items c.from.ensures c.self.view_is
+    whole_bits _ _ _ _ _ _ _ _ c.self.invariant (omega arith) c.push.ensures.items c.from.ensures
+    c.self.view_is

@@ -1,5 +1,0 @@
-use Rattle.packet_headers.proofs.ReadPackets.{BandsSofar}
-use Rattle.packet_headers.proofs.read_packet.read_bands.Given as goal
-
-abbrev pub invariant-loop-band : goal.invariant-loop-band
-invariant-loop-band l = BandsSofar l.shape.bands.items l.initial.bits l.bits l.bands.items l.band-index
