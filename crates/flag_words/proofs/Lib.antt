@@ -1,0 +1,9 @@
+pub mod Around
+pub mod Borders
+pub mod Masks
+pub mod Quiet
+pub mod Spread
+pub mod Neighbours
+pub mod NewPlace
+pub mod OneWord
+pub mod Words
