@@ -1,0 +1,4 @@
+pub mod Cells
+pub mod Fits
+mod Largest
+mod Together
