@@ -1,7 +1,9 @@
 pub mod Around
+pub mod BlankLemmas
 pub mod Borders
 pub mod Masks
 pub mod Quiet
+pub mod Runs
 pub mod Spread
 pub mod Neighbours
 pub mod NewPlace

@@ -54,10 +54,10 @@ beside_places (suc (suc zero)) l s n f t = (refl, refl, refl)
 beside_places (suc (suc (suc zero))) l s n f t = (refl, refl, refl)
 beside_places (suc (suc (suc (suc r)))) l s n f t = absurd (omega arith)
 
-abbrev all : (Bool → Bool) → Bool
+abbrev pub all : (Bool → Bool) → Bool
 all f = f true && f false
 
-one : (f : Bool → Bool) → all f ≡ true → (b : Bool) → f b ≡ true
+pub one : (f : Bool → Bool) → all f ≡ true → (b : Bool) → f b ≡ true
 one f e true = (and_parts _ _ e).0
 one f e false = (and_parts _ _ e).1
 

@@ -182,6 +182,7 @@ module _ (w p i column stripe r n : ℕ) (cells : List Cell) (b : Bool) (o : IsO
       own x y (suc zero) lu ax ex ey en e = inl (omega arith)
       own x y (suc (suc zero)) lu ax ex ey en e = inr (inr (inr (inr (inr (inl (omega arith))))))
       own x y (suc (suc (suc u))) lu ax ex ey en e = absurd (omega arith)
+
       beside : (x y u : ℕ) → u < 3 → x + u - 1 ≡ suc (i % w) → column ≡ suc (i % w) → j ≡ 34 * s + column → y ≡ s
           → In (34 * y + x) (n ∷ (j + 1) ∷ j ∷ (j - 1) ∷ (n + 1) ∷ (n - 1) ∷ [])
       beside x y zero lu ax ex ej e = inr (inl (omega arith))

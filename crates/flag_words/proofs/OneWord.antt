@@ -71,10 +71,13 @@ module _ (w p : ℕ) (cells : List Cell) (i : ℕ) (d : Cell) where
     where
       at_x : (x y : ℕ) → x < 34 → 34 * y + x ≡ n → IsOpen w i column stripe r n cells → x ≡ column
       at_x x y lx e o = let f : n ≡ 34 * stripe + column = o.index in let lc : column < 33 = o.few in omega arith
+
       at_y : (x y : ℕ) → x < 34 → 34 * y + x ≡ n → IsOpen w i column stripe r n cells → y ≡ stripe
       at_y x y lx e o = let f : n ≡ 34 * stripe + column = o.index in let lc : column < 33 = o.few in omega arith
+
       shows : IsOpen w i column stripe r n cells → Shows w p cells i d column stripe (suc r) 1
       shows o = let ex : column ≡ suc (i % w) = o.place.column_is in let ey : 4 * stripe + r ≡ i / w + 4 = o.place.row_is in (omega arith, omega arith)
+
       elsewhere : (x y v u : ℕ) → (u ≡ 1) × (0 < v) × (v < 5) → Shows w p cells i d x y v u → IsOpen w i column stripe r n cells → 34 * y + x ≡ n
       elsewhere x y v u own at o =
           let ex : column ≡ suc (i % w) = o.place.column_is in

@@ -11,7 +11,7 @@ use Rattle.flag_words.specs.Words.{IsFlagWord, IsIn}
 use Rattle.flag_words.specs.Lookups.{neighbours_of}
 use Rattle.flag_words.proofs.Around.{sig_bit, own_sig, own_refined, own_touched, neighbour_bit, middle, neighbours_few}
 
-same_bool : (a b : Bool) → (a ≡ true → b ≡ true) → (b ≡ true → a ≡ true) → a ≡ b
+pub same_bool : (a b : Bool) → (a ≡ true → b ≡ true) → (b ≡ true → a ≡ true) → a ≡ b
 same_bool true b f g = sym (f refl)
 same_bool false true f g = g refl
 same_bool false false f g = refl

@@ -89,5 +89,6 @@ module _ (w p : ℕ) (cells : List Cell) (i : ℕ) (d : Cell) (column stripe : �
         where
           rows : (v : ℕ) → 4 * stripe + v - 4 ≡ suc (i / w) → 4 * stripe + r - 4 ≡ suc (i / w) → v ≡ r
           rows v a b = omega arith
+
           columns : (v : ℕ) → column + v - 1 ≡ suc (i % w) → column + c - 1 ≡ suc (i % w) → v ≡ c
           columns v a b = omega arith

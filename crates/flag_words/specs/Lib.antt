@@ -1,2 +1,3 @@
+pub mod Blank
 pub mod Lookups
 pub mod Words

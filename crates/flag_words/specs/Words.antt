@@ -84,3 +84,10 @@ pub record IsOpen (w i column stripe r n : ℕ) (cells : List Cell) : Type 0 whe
 pub record IsNew (c : Cell) : Type 0 where
   pub insignificant : is_significant c ≡ false
   pub plain : c.negative ≡ false
+
+-- the four places of a column, from the top
+pub record IsColumn (w column stripe a b c d : ℕ) : Type 0 where
+  pub first : IsIn w a column stripe 0
+  pub second : IsIn w b column stripe 1
+  pub third : IsIn w c column stripe 2
+  pub fourth : IsIn w d column stripe 3

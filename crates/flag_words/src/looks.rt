@@ -1,9 +1,9 @@
 // What a word says of a place.
-ghost use Rattle.std.specs.Prelude.{◌≡◌, ◌<◌, ℕ, Bool, true, List};
+ghost use Rattle.std.specs.Prelude.{◌≡◌, ◌<◌, ◌&&◌, ℕ, Bool, true, List, length};
 ghost use Rattle.ebcot_contexts.specs.Cells.{Cell, cell_at, is_significant};
 ghost use Rattle.ebcot_contexts.specs.Contexts.{Shape, refinement_at};
-ghost use Rattle.ebcot_contexts.specs.Passes.{significance, refinement, cleanup, is_coded};
-ghost use Rattle.flag_words.specs.Words.{IsFlagWord, IsIn};
+ghost use Rattle.ebcot_contexts.specs.Passes.{significance, refinement, cleanup, is_coded, is_calm};
+ghost use Rattle.flag_words.specs.Words.{IsFlagWord, IsIn, IsColumn};
 
 use crate::bits::{has, neighbours};
 
@@ -51,4 +51,19 @@ pub fn refinement_context(word: u32, r: u32) -> u8
 {
     let quiet = neighbours(word, r) == 0;
     ebcot_contexts::refinement(!has(word, 20 + 3 * r), !quiet)
+}
+
+/// Whether a cleanup pass codes the places of a column in run mode.
+#[inline(always)]
+pub fn codes_run(word: u32) -> bool
+    ensures run { (s : Shape) (p column stripe a b c d : ℕ) (cells : List Cell) →
+        IsColumn s.width column stripe a b c d → 0 < s.width →
+        IsFlagWord s.width p cells column stripe word →
+        result ≡ (is_calm s p cells a && is_calm s p cells b && is_calm s p cells c && is_calm s p cells d) }
+    // such a column has four rows
+    ensures inside { (s : Shape) (p i column stripe : ℕ) (cells : List Cell) →
+        IsIn s.width i column stripe 3 → 0 < s.width →
+        IsFlagWord s.width p cells column stripe word → result ≡ true → i < length cells }
+{
+    word & 0x4923_FFFF == 0
 }

@@ -3,7 +3,6 @@ ghost use Rattle.std.specs.Prelude.{◌≡◌, ◌+◌, ◌-◌, ◌*◌, ◌<�
 ghost use Rattle.ebcot_contexts.specs.Cells.{Cell};
 ghost use Rattle.ebcot_contexts.specs.Contexts.{Shape, sign_at};
 ghost use Rattle.flag_words.specs.Words.{IsFlagWord, IsIn};
-
 ghost use Rattle.flag_words.specs.Lookups.{index_of};
 
 use crate::bits::bit;
@@ -38,7 +37,11 @@ fn sign_index(left: u32, word: u32, right: u32, r: u32) -> u32
     requires { r < 4 }
     ensures { result ≡ index_of left word right r }
 {
-    let above = if r == 0 { bit(word, 18) } else { bit(word, 3 * r + 16) };
+    let above = if r == 0 {
+        bit(word, 18)
+    } else {
+        bit(word, 3 * r + 16)
+    };
     bit(left, 3 * r + 19)
         + 2 * bit(word, 3 * r + 1)
         + 4 * bit(right, 3 * r + 19)

@@ -63,7 +63,13 @@ fn spread_around(words: &mut [u32; 340], n: usize, r: u32, minus: u32)
 /// The word of a column after the place of row `r` became significant, with the words around it
 /// changed.
 #[inline(always)]
-pub fn become_significant(words: &mut [u32; 340], n: usize, word: u32, r: u32, negative: bool) -> u32
+pub fn become_significant(
+    words: &mut [u32; 340],
+    n: usize,
+    word: u32,
+    r: u32,
+    negative: bool,
+) -> u32
     requires row { r < 4 }
     requires some { 35 ≤ n }
     requires few { n + 35 < 340 }
@@ -71,7 +77,7 @@ pub fn become_significant(words: &mut [u32; 340], n: usize, word: u32, r: u32, n
         IsOpen w i column stripe r n cells → IsNew (cell_at cells i) →
         AreFlags w p cells (set words.old n word) →
         AreFlags w p (set cells i (become_significant p negative (cell_at cells i)))
-            (set words.new n result) }
+        (set words.new n result) }
 {
     let minus = u32::from(negative);
     spread_around(words, n, r, minus);
