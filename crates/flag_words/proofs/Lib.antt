@@ -1,6 +1,7 @@
 pub mod Around
 pub mod BlankLemmas
 pub mod Borders
+pub mod Few
 pub mod Masks
 pub mod Quiet
 pub mod Runs

@@ -3,7 +3,7 @@ ghost use Rattle.std.specs.Prelude.{◌≡◌, ◌+◌, ◌*◌, ◌<◌, ℕ, L
 ghost use Rattle.ebcot_contexts.specs.Cells.{Cell};
 ghost use Rattle.ebcot_contexts.specs.Contexts.{Shape, context_at};
 ghost use Rattle.flag_words.specs.Words.{IsFlagWord, IsIn};
-ghost use Rattle.flag_words.specs.Lookups.{neighbour_context};
+ghost use Rattle.flag_words.specs.Lookups.{neighbour_context, neighbours_of};
 
 use crate::bits::neighbours;
 use cine_nums::Orient;
@@ -108,7 +108,8 @@ pub fn significance_contexts(orient: Orient) -> &'static [u8; 512]
 #[inline(always)]
 pub fn significance_context(contexts: &[u8; 512], word: u32, r: u32) -> u8
     requires { r < 4 }
-    ensures { (s : Shape) (p i column stripe : ℕ) (cells : List Cell) →
+    ensures entry { result ≡ get_or contexts.now (neighbours_of word r) 0 }
+    ensures context { (s : Shape) (p i column stripe : ℕ) (cells : List Cell) →
         ((k : ℕ) → k < 512 → get_or contexts.now k 0 ≡ neighbour_context s.orient k) →
         IsIn s.width i column stripe r → 0 < s.width → IsFlagWord s.width p cells column stripe word →
         result ≡ context_at s cells i }

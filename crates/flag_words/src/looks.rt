@@ -45,7 +45,8 @@ pub fn codes_cleanup(word: u32, r: u32) -> bool
 #[inline(always)]
 pub fn refinement_context(word: u32, r: u32) -> u8
     requires { r < 4 }
-    ensures { (s : Shape) (p i column stripe : ℕ) (cells : List Cell) →
+    ensures few { result < 19 }
+    ensures context { (s : Shape) (p i column stripe : ℕ) (cells : List Cell) →
         IsIn s.width i column stripe r → 0 < s.width → IsFlagWord s.width p cells column stripe word →
         is_significant (cell_at cells i) ≡ true → result ≡ refinement_at s cells i }
 {

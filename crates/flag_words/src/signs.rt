@@ -57,7 +57,8 @@ fn sign_index(left: u32, word: u32, right: u32, r: u32) -> u32
 #[inline(always)]
 pub fn sign_context(left: u32, word: u32, right: u32, r: u32) -> (u8, bool)
     requires { r < 4 }
-    ensures { (s : Shape) (p i column stripe : ℕ) (cells : List Cell) →
+    ensures few { result.0 < 19 }
+    ensures context { (s : Shape) (p i column stripe : ℕ) (cells : List Cell) →
         IsIn s.width i column stripe r → 0 < s.width →
         IsFlagWord s.width p cells (column - 1) stripe left →
         IsFlagWord s.width p cells column stripe word →
