@@ -5,3 +5,4 @@ pub mod Written
 pub mod Reading
 pub mod InsideReading
 pub mod InsideWriting
+pub mod Kept

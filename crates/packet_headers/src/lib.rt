@@ -15,6 +15,7 @@
 #![tactic(auto)]
 
 mod entry;
+mod kept;
 pub mod laws;
 mod packet;
 mod reading;
@@ -22,6 +23,7 @@ mod refusal;
 mod writing;
 
 pub use entry::Entry;
+pub use kept::KeptPacket;
 pub use packet::{BandShape, Packet, PacketBand, PacketRead, PacketShape};
 pub use reading::packet::read;
 pub use refusal::PacketRefusal;

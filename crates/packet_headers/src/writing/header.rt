@@ -3,6 +3,7 @@ ghost use Rattle.std.specs.Prelude.{◌≡◌, ◌+◌, ◌*◌, ◌<◌, ◌≤
 ghost use Rattle.bit_stuffing.specs.Stuffing.{packed, Stuffs};
 ghost use Rattle.packet_headers.specs.Words.{packet_of};
 ghost use Rattle.packet_headers.specs.Reading.{HasHeader};
+ghost use Rattle.packet_headers.specs.Kept.{header_length};
 ghost use Rattle.packet_headers.specs.Written.{written, written_bits, band_has_any, has_any};
 ghost use Rattle.packet_headers.specs.Written.{shapes_of, ArePlain, CanWrite};
 
@@ -71,10 +72,10 @@ pub fn header(p: &Packet) -> ArrayVec<u8, 1024>
     out.finish()
 }
 
-/// The number of bytes of `header`, under the same conditions, without making them.
+/// The number of bytes of `header`, under the same conditions.
 pub fn header_len(p: &Packet) -> u32
     requires { CanWrite p.now }
-    ensures value { result ≡ length (packed (written_bits p.now)) }
+    ensures value { result ≡ header_length p.now }
     ensures some { 1 ≤ result }
     ensures few { result ≤ 449 }
 {
