@@ -48,7 +48,8 @@ impl KeptPacket {
 
     /// The packet.
     pub fn packet(&self) -> &Packet
-        ensures { result.now ≡ self.now }
+        ensures packet { result.now ≡ self.now }
+        ensures can_write { CanWrite result.now }
     {
         &self.packet
     }

@@ -16,6 +16,8 @@
 
 mod entry;
 mod kept;
+#[cfg(test)]
+mod kept_tests;
 pub mod laws;
 mod packet;
 mod reading;
