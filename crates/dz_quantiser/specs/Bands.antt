@@ -1,20 +1,23 @@
--- The bands of a component in the order of the QCD segment (ISO/IEC 15444-1, Annex A.6.4), with their
--- ranges and numbers of magnitude bit-planes (Annex E.1) and the built-in steps.
-use Rattle.std.specs.Prelude.{◌≡◌, ℕ, zero, suc, ◌+◌, ◌-◌, ◌*◌, ◌≤◌, List, [], ◌∷◌, length, slice_index_or}
+-- The bands of a component in the order of the QCD segment (ISO/IEC 15444-1, Annex A.6.4), with
+-- their ranges and numbers of magnitude bit-planes (Annex E.1) and the built-in steps.
+use Rattle.std.specs.Prelude.{◌≡◌, ℕ, zero, suc, ◌+◌, ◌-◌, ◌*◌, ◌≤◌, List, [], ◌∷◌, length}
+use Rattle.std.specs.Prelude.{slice_index_or}
 use Rattle.cine_nums.specs.declared.orient.Orient.{Orient}
 use Rattle.cine_nums.specs.declared.orient.Orient.TheVariants.{LL, HL, LH, HH}
 use Rattle.dz_quantiser.specs.Usable.{IsUsable}
 use Rattle.dz_quantiser.specs.declared.band.BandStep.{BandStep}
 use Rattle.dz_quantiser.specs.declared.steps.StepSizes.{StepSizes}
 
--- the place of a band of resolution r: LL, then HL, LH, HH of resolution 1, those of resolution 2, ..
+-- the place of a band of resolution r: LL, then HL, LH, HH of resolution 1, those of resolution 2,
+-- ..
 abbrev pub band_number : ℕ → Orient → ℕ
 band_number r LL = 0
 band_number r HL = 3 * (r - 1) + 1
 band_number r LH = 3 * (r - 1) + 2
 band_number r HH = 3 * (r - 1) + 3
 
--- the dynamic range of a band in bits: the 12 of the samples and the gain of the band's filters (E-4)
+-- the dynamic range of a band in bits: the 12 of the samples and the gain of the band's filters
+-- (E-4)
 abbrev pub range_of : Orient → ℕ
 range_of LL = 12
 range_of HL = 13
@@ -41,7 +44,8 @@ built_in_bands levels = built_in_step levels ∷ built_in_above levels
 
 -- the step of a band, and its number of magnitude bit-planes
 abbrev pub step_of : StepSizes → ℕ → Orient → BandStep
-step_of steps r o = slice_index_or steps.bands.items (band_number r o) (record { exponent = 0; mantissa = 0 })
+step_of steps r o = slice_index_or steps.bands.items (band_number r o)
+    (record { exponent = 0; mantissa = 0 })
 
 abbrev pub band_planes : StepSizes → ℕ → Orient → ℕ
 band_planes steps r o = planes_of steps.guard (step_of steps r o).exponent
@@ -50,8 +54,8 @@ band_planes steps r o = planes_of steps.guard (step_of steps r o).exponent
 abbrev pub IsUsableAt : StepSizes → ℕ → Orient → Type 0
 IsUsableAt steps r o = IsUsable (range_of o) (band_planes steps r o) (step_of steps r o)
 
--- The quantiser takes these steps for a component of so many levels: the guard bits are at most 7 (QCD
--- has 3 bits for them), there is one step a band, and it takes each.
+-- The quantiser takes these steps for a component of so many levels: the guard bits are at most 7
+-- (QCD has 3 bits for them), there is one step a band, and it takes each.
 pub record AreUsable (levels : ℕ) (steps : StepSizes) : Type 0 where
   pub guard : steps.guard ≤ 7
   pub count : length steps.bands.items ≡ 3 * levels + 1

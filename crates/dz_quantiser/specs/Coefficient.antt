@@ -10,7 +10,8 @@ pub record Coefficient : Type 0 where
 abbrev pub zero_coefficient : Coefficient
 zero_coefficient = record { magnitude = 0; negative = false }
 
--- a coefficient whose magnitude has at most 31 bits as a word of 32 bits: the sign is the highest bit
+-- a coefficient whose magnitude has at most 31 bits as a word of 32 bits: the sign is the highest
+-- bit
 abbrev pub word_of : Coefficient → ℕ
 word_of c = c.magnitude + (if c.negative then 2147483648 else 0)
 

@@ -1,5 +1,6 @@
 -- The quantiser with a dead zone (ISO/IEC 15444-1, Annexes E.1 and E.2).
-use Rattle.std.specs.Prelude.{ℕ, ◌+◌, ◌-◌, ◌*◌, ◌/◌, ◌^◌, min, ℤ, pos, ◌&&◌, nat_lt, int_lt, unsigned_abs}
+use Rattle.std.specs.Prelude.{ℕ, ◌+◌, ◌-◌, ◌*◌, ◌/◌, ◌^◌, min, ℤ, pos, ◌&&◌, nat_lt, int_lt}
+use Rattle.std.specs.Prelude.{unsigned_abs}
 use Rattle.dz_quantiser.specs.Coefficient.{Coefficient}
 use Rattle.dz_quantiser.specs.declared.band.BandStep.{BandStep}
 

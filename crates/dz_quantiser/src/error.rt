@@ -17,9 +17,9 @@ fn middle(bits: u32, unknown: u8) -> u32
     }
 }
 
-/// The squared error of an index of this magnitude whose lowest `unknown` bit-planes are unknown, in
-/// units of half a step: between the middle of the sizes that have the index, and the middle of those
-/// that have its known bits, or 0 where these are all 0 (ISO/IEC 15444-1, Annex E.1).
+/// The squared error of an index of this magnitude whose lowest `unknown` bit-planes are unknown,
+/// in units of half a step: between the middle of the sizes that have the index, and the middle of
+/// those that have its known bits, or 0 where these are all 0 (ISO/IEC 15444-1, Annex E.1).
 #[inline]
 pub fn squared_error(magnitude: u32, unknown: u8) -> u64
     requires magnitude { magnitude < 2 ^ 20 }

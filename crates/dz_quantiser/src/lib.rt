@@ -1,5 +1,5 @@
-//! The quantiser of ISO/IEC 15444-1, Annex E: the steps of the bands, and the index of a transformed
-//! sample, with the error that is left while only some of its bit-planes are known.
+//! The quantiser of ISO/IEC 15444-1, Annex E: the steps of the bands, and the index of a
+//! transformed sample, with the error that is left while only some of its bit-planes are known.
 //!
 //! A [`Coef`] is the index of a place in four bytes, and contracts see its magnitude and sign. A
 //! [`BandQuantiser`] is what [`index`] needs of a band, and its type says that `index` takes it.

@@ -4,7 +4,9 @@ ghost use Rattle.arrayvec.specs.ArrayVec.{array_vec_len};
 ghost use Rattle.cine_nums.specs.Levels.{band_level};
 ghost use Rattle.cine_nums.specs.Profile.{guard_of, levels_of};
 ghost use Rattle.cine_nums.specs.declared.orient.Orient.{Orient};
-ghost use Rattle.dz_quantiser.specs.Bands.{band_number, range_of, planes_of, band_planes, built_in_step, built_in_bands, step_of, IsUsableAt, AreUsable};
+ghost use Rattle.dz_quantiser.specs.Bands.{band_number, range_of, planes_of, band_planes};
+ghost use Rattle.dz_quantiser.specs.Bands.{built_in_step, built_in_bands, step_of, IsUsableAt};
+ghost use Rattle.dz_quantiser.specs.Bands.{AreUsable};
 
 use crate::band::{BandQuantiser, BandStep};
 use arrayvec::ArrayVec;
@@ -20,8 +22,8 @@ pub struct StepSizes {
 }
 
 impl StepSizes {
-    /// The steps and guard bits that the encoder uses. A band of level n has the exponent `13 + n` and
-    /// the mantissa 0; resolution 0 has the level of the profile's lowest bands.
+    /// The steps and guard bits that the encoder uses. A band of level n has the exponent `13 + n`
+    /// and the mantissa 0; resolution 0 has the level of the profile's lowest bands.
     pub fn built_in(profile: Profile) -> StepSizes
         ensures guard { result.guard ≡ guard_of profile }
         ensures bands { result.bands.items ≡ built_in_bands (levels_of profile) }
@@ -45,8 +47,8 @@ impl StepSizes {
         }
     }
 
-    /// The step of a band of resolution `res`, of `levels` levels. Resolution 0 has LL alone, and no
-    /// other resolution has it.
+    /// The step of a band of resolution `res`, of `levels` levels. Resolution 0 has LL alone, and
+    /// no other resolution has it.
     pub fn step(&self, levels: u8, res: u8, orient: Orient) -> BandStep
         requires levels { levels ≤ 6 }
         requires count { array_vec_len self.now.bands ≡ 3 * levels + 1 }
@@ -78,10 +80,10 @@ impl StepSizes {
         }
     }
 
-    /// Whether the quantiser takes these steps for a component of `levels` levels: the guard bits are
-    /// at most 7, there is one step a band (ISO/IEC 15444-1, Annex A.6.4), and each has an exponent of
-    /// at least the band's [`range`] in bits, a mantissa of 11 bits, and with the guard bits 1 to 20
-    /// magnitude bit-planes (Annex E.1), so that no exponent is above 21.
+    /// Whether the quantiser takes these steps for a component of `levels` levels: the guard bits
+    /// are at most 7, there is one step a band (ISO/IEC 15444-1, Annex A.6.4), and each has an
+    /// exponent of at least the band's [`range`] in bits, a mantissa of 11 bits, and with the guard
+    /// bits 1 to 20 magnitude bit-planes (Annex E.1), so that no exponent is above 21.
     pub fn are_usable(&self, levels: u8) -> bool
         requires { levels ≤ 6 }
         ensures { IsTrue result ↔ AreUsable levels self.now }
@@ -132,8 +134,8 @@ fn built_in_step(level: u8) -> BandStep
     }
 }
 
-/// The place of a band in the order of the QCD segment: LL, then HL, LH and HH of resolution 1, those of
-/// resolution 2, and so on. Resolution 0 has LL alone, and no other resolution has it.
+/// The place of a band in the order of the QCD segment: LL, then HL, LH and HH of resolution 1,
+/// those of resolution 2, and so on. Resolution 0 has LL alone, and no other resolution has it.
 pub fn band_number(levels: u8, res: u8, orient: Orient) -> u8
     requires levels { levels ≤ 6 }
     requires res { res ≤ levels }
@@ -150,7 +152,8 @@ pub fn band_number(levels: u8, res: u8, orient: Orient) -> u8
     }
 }
 
-/// The dynamic range of a band in bits: the 12 of the samples, and 1 for each high-pass filter (E-4).
+/// The dynamic range of a band in bits: the 12 of the samples, and 1 for each high-pass filter
+/// (E-4).
 pub fn range(orient: Orient) -> u8
     ensures { result ≡ range_of orient }
 {
@@ -161,8 +164,8 @@ pub fn range(orient: Orient) -> u8
     }
 }
 
-/// The number of magnitude bit-planes of a band: the guard bits and the exponent of its step, less 1
-/// (E-2), and 0 where both are 0.
+/// The number of magnitude bit-planes of a band: the guard bits and the exponent of its step, less
+/// 1 (E-2), and 0 where both are 0.
 pub fn planes(guard: u8, step: BandStep) -> u8
     requires guard { guard ≤ 7 }
     requires exponent { step.exponent < 32 }

@@ -1,5 +1,4 @@
 mod BandLaw
 mod BandSteps
-mod Resolutions
 mod Rows
 mod Undecoded

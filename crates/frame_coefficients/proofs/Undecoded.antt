@@ -14,7 +14,8 @@ error-unknown m u lt =
 pub error-unknown_all : (m : ℕ) → squared_error m (bit_len m) ≡ square (middle m 0)
 error-unknown_all m = error-unknown m (bit_len m) (bit_len-above m)
 
-pub error-undecoded : (m : ℕ) → (m ≡ 0 → ⊥) → squared_error m (bit_len m) ≡ (2 * m + 1) * (2 * m + 1)
+pub error-undecoded : (m : ℕ) → (m ≡ 0 → ⊥) →
+    squared_error m (bit_len m) ≡ (2 * m + 1) * (2 * m + 1)
 error-undecoded zero some = absurd (some refl)
 error-undecoded (suc n) some =
     let size : middle (suc n) 0 ≡ 2 * suc n + 1 = omega arith in

@@ -1,5 +1,5 @@
--- The coefficients of a frame, from its samples on: the component transform (ISO/IEC 15444-1, Annex G.3), the
--- wavelet transform of each component (Annex F) and the quantiser (Annex E).
+-- The coefficients of a frame, from its samples on: the component transform (ISO/IEC 15444-1, Annex
+-- G.3), the wavelet transform of each component (Annex F) and the quantiser (Annex E).
 use Rattle.std.specs.Prelude.{ℕ, zero, suc, ◌+◌, ℤ, List}
 use Rattle.colour_ict.specs.Ict.{component0, component1, component2}
 use Rattle.colour_ict.specs.Pointwise.{pointwise}
@@ -15,13 +15,15 @@ component zero xs ys zs = pointwise component0 xs ys zs
 component (suc zero) xs ys zs = pointwise component1 xs ys zs
 component (suc (suc _)) xs ys zs = pointwise component2 xs ys zs
 
--- the coefficients of component 0, 1 or 2 of a frame of this width and height, by so many levels of the
--- wavelet transform and these steps, in raster order of the transformed plane
-unfoldable pub coefficients_of : ℕ → ℕ → ℕ → StepSizes → ℕ → List ℕ → List ℕ → List ℕ → List Coefficient
+-- the coefficients of component 0, 1 or 2 of a frame of this width and height, by so many levels of
+-- the wavelet transform and these steps, in raster order of the transformed plane
+unfoldable pub coefficients_of : ℕ → ℕ → ℕ → StepSizes → ℕ → List ℕ → List ℕ → List ℕ →
+    List Coefficient
 coefficients_of levels width height steps c xs ys zs =
     quantised levels width height steps (plane_transform levels width height (component c xs ys zs))
 
--- the distortion of a frame of which nothing is decoded: the sum over the coefficients of all components
+-- the distortion of a frame of which nothing is decoded: the sum over the coefficients of all
+-- components
 unfoldable pub frame_undecoded_distortion : ℕ → ℕ → ℕ → StepSizes → List ℕ → List ℕ → List ℕ → ℕ
 frame_undecoded_distortion levels width height steps xs ys zs =
     undecoded_distortion (coefficients_of levels width height steps 0 xs ys zs)

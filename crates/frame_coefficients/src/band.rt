@@ -1,8 +1,7 @@
 // The band of a place of the transformed plane.
 ghost use Rattle.std.specs.Prelude.{◌≡◌, ◌≤◌, max};
-ghost use Rattle.band_geometry.specs.Sizes.{res_side};
-ghost use Rattle.dz_quantiser.specs.Bands.{step_of, range_of, planes_of, AreUsable};
-ghost use Rattle.frame_coefficients.specs.Places.{res_at, orient_of};
+ghost use Rattle.dz_quantiser.specs.Bands.{step_of, range_of, band_planes, AreUsable};
+ghost use Rattle.band_geometry.specs.Places.{res_at, orient_of};
 
 use band_geometry::Geometry;
 use cine_nums::Orient;
@@ -41,9 +40,11 @@ pub fn band_at(steps: &StepSizes, levels: u8, column_res: u8, row_res: u8) -> Ba
     requires usable { AreUsable levels steps.now }
     requires column { column_res ≤ levels }
     requires row { row_res ≤ levels }
-    ensures step { result.step ≡ step_of steps.now (max column_res row_res) (orient_of column_res row_res) }
+    ensures step { result.step ≡ step_of steps.now (max column_res row_res)
+        (orient_of column_res row_res) }
     ensures range { result.range ≡ range_of (orient_of column_res row_res) }
-    ensures planes { result.planes ≡ planes_of steps.now.guard result.step.exponent }
+    ensures planes { result.planes
+        ≡ band_planes steps.now (max column_res row_res) (orient_of column_res row_res) }
 {
     let orient = orient_of(column_res, row_res);
     steps.band(levels, column_res.max(row_res), orient)

@@ -3,7 +3,7 @@ ghost use Rattle.std.specs.Prelude.{◌≡◌, ◌+◌, ◌*◌, ◌<◌, ◌≤
 ghost use Rattle.std.specs.List.{All};
 ghost use Rattle.frame_coefficients.specs.Distortion.{undecoded_error, undecoded_distortion};
 
-use crate::plane::CoefPlane;
+use codeblock_views::CoefPlane;
 use dz_quantiser::Coef;
 
 /// The squared error of a coefficient while all its bit-planes are unknown.
@@ -27,7 +27,8 @@ fn sum_between(coefs: &[Coef], from: usize, to: usize) -> u64
     requires few { to ≤ from + 4096 }
     requires within { to ≤ length coefs.now }
     requires magnitudes { All (λ q. q.magnitude < 2 ^ 20) coefs.now }
-    ensures value { sum_by undecoded_error (take from coefs.now) + result ≡ sum_by undecoded_error (take to coefs.now) }
+    ensures value { sum_by undecoded_error (take from coefs.now) + result
+        ≡ sum_by undecoded_error (take to coefs.now) }
     ensures small { result ≤ 2 ^ 54 }
 {
     let mut sum = 0;

@@ -2,16 +2,18 @@
 ghost use Rattle.std.specs.Prelude.{◌≡◌, ◌*◌, ◌+◌, ◌<◌, ◌≤◌, ◌^◌, length, max, IfOk};
 ghost use Rattle.std.specs.List.{All};
 ghost use Rattle.cine_nums.specs.Fixed.{Within30};
+ghost use Rattle.codeblock_views.specs.Magnitudes.{AreSmall};
 ghost use Rattle.dz_quantiser.specs.Bands.{AreUsable};
 ghost use Rattle.lift97_fixed.specs.Plane.{plane_transform};
-ghost use Rattle.frame_coefficients.specs.Frame.{component, coefficients_of, frame_undecoded_distortion};
+ghost use Rattle.frame_coefficients.specs.Frame.{component, coefficients_of};
+ghost use Rattle.frame_coefficients.specs.Frame.{frame_undecoded_distortion};
 ghost use Rattle.frame_coefficients.specs.Places.{quantised};
-ghost use Rattle.frame_coefficients.specs.Planes.{HasSize, IsSmall};
+ghost use Rattle.frame_coefficients.specs.Planes.{HasSize, AreBelow, ArePlain};
 
 use crate::distortion::undecoded_distortion;
-use crate::plane::CoefPlane;
 use crate::quantise::quantise_plane;
 use band_geometry::Geometry;
+use codeblock_views::CoefPlane;
 use colour_ict::row;
 use dz_quantiser::StepSizes;
 use lift97_fixed::{Plane, forward};
@@ -40,9 +42,12 @@ fn mix(x: &[u16], y: &[u16], z: &[u16], plane0: &mut Plane, plane1: &mut Plane, 
     ensures cells0 { plane0.new.cells.items ≡ component 0 x.now y.now z.now }
     ensures cells1 { plane1.new.cells.items ≡ component 1 x.now y.now z.now }
     ensures cells2 { plane2.new.cells.items ≡ component 2 x.now y.now z.now }
-    ensures size0 { (plane0.new.width ≡ plane0.old.width) × (plane0.new.height ≡ plane0.old.height) }
-    ensures size1 { (plane1.new.width ≡ plane1.old.width) × (plane1.new.height ≡ plane1.old.height) }
-    ensures size2 { (plane2.new.width ≡ plane2.old.width) × (plane2.new.height ≡ plane2.old.height) }
+    ensures size0 { (plane0.new.width ≡ plane0.old.width) ×
+        (plane0.new.height ≡ plane0.old.height) }
+    ensures size1 { (plane1.new.width ≡ plane1.old.width) ×
+        (plane1.new.height ≡ plane1.old.height) }
+    ensures size2 { (plane2.new.width ≡ plane2.old.width) ×
+        (plane2.new.height ≡ plane2.old.height) }
     ensures within0 { All Within30 plane0.new.cells.items }
     ensures within1 { All Within30 plane1.new.cells.items }
     ensures within2 { All Within30 plane2.new.cells.items }
@@ -74,7 +79,9 @@ fn coefs_of(
     ensures value { IfOk result (λ q. q.cells.items ≡
         quantised geometry.now.levels geometry.now.width geometry.now.height steps.now
         (plane_transform geometry.now.levels geometry.now.width geometry.now.height plane.cells.items)) }
-    ensures magnitudes { IfOk result (λ q. IsSmall q) }
+    ensures magnitudes { IfOk result (λ q. AreSmall q.cells.items) }
+    ensures below { IfOk result (λ q. AreBelow geometry.now steps.now q.cells.items) }
+    ensures plain { IfOk result (λ q. ArePlain q.cells.items) }
 {
     forward(&mut plane, geometry.levels, scratch);
     let mut coefs = CoefPlane::new(alloc, geometry.width, geometry.height)?;
@@ -87,11 +94,13 @@ fn coefs_of(
     Ok(coefs)
 }
 
-/// The coefficients of a frame, whose samples X, Y and Z stand in raster order and are at most 4095: the
-/// component transform (ISO/IEC 15444-1, Annex G.3), the wavelet transform of the geometry's levels
-/// (Annex F), and the index of each place by the step of its band (Annex E).
+/// The coefficients of a frame, whose samples X, Y and Z stand in raster order and are at most
+/// 4095: the component transform (ISO/IEC 15444-1, Annex G.3), the wavelet transform of the
+/// geometry's levels (Annex F), and the index of each place by the step of its band (Annex E).
 ///
-/// Every magnitude is below `2^20`, and the distortion below `2^68`. The only refusal is out of memory.
+/// Each magnitude is below 2 to the number of magnitude bit-planes of its band, and so below
+/// `2^20`; an index of 0 has the sign plus; the distortion is below `2^68`. The only refusal is out
+/// of memory.
 pub fn coefficients(
     alloc: Global,
     geometry: &Geometry,
@@ -116,8 +125,15 @@ pub fn coefficients(
     ensures undecoded { IfOk result (λ q. q.undecoded_distortion ≡
         frame_undecoded_distortion geometry.now.levels geometry.now.width geometry.now.height steps.now x.now y.now z.now) }
     ensures small { IfOk result (λ q. q.undecoded_distortion < 2 ^ 68) }
-    ensures size { IfOk result (λ q. HasSize geometry.now q.c0 × HasSize geometry.now q.c1 × HasSize geometry.now q.c2) }
-    ensures magnitudes { IfOk result (λ q. IsSmall q.c0 × IsSmall q.c1 × IsSmall q.c2) }
+    ensures size { IfOk result
+        (λ q. HasSize geometry.now q.c0 × HasSize geometry.now q.c1 × HasSize geometry.now q.c2) }
+    ensures magnitudes { IfOk result (λ q.
+        AreSmall q.c0.cells.items × AreSmall q.c1.cells.items × AreSmall q.c2.cells.items) }
+    ensures below { IfOk result (λ q. AreBelow geometry.now steps.now q.c0.cells.items
+        × AreBelow geometry.now steps.now q.c1.cells.items
+        × AreBelow geometry.now steps.now q.c2.cells.items) }
+    ensures plain { IfOk result (λ q.
+        ArePlain q.c0.cells.items × ArePlain q.c1.cells.items × ArePlain q.c2.cells.items) }
 {
     let (width, height) = (geometry.width, geometry.height);
     let mut plane0 = Plane::new(alloc, width, height)?;
@@ -203,6 +219,31 @@ mod tests {
         assert_eq!(rt; black.undecoded_distortion, 68720001025);
         let white = coefficients(rt.alloc(), &geometry, &steps, &[4095], &[4095], &[4095])?;
         assert_eq!(rt; white.undecoded_distortion, 68652908289);
+        Ok(())
+    }
+
+    /// The distortion of a frame of the profile's largest size whose samples are all 2049.
+    fn grey(alloc: Global, profile: Profile) -> Result<u128, AllocError> {
+        let (width, height) = (profile.max_width(), profile.max_height());
+        let geometry = Geometry::new(profile, profile.levels(), width, height);
+        let samples = vec![in alloc; 2049; width as usize * height as usize]?;
+        let samples = samples.as_slice();
+        let steps = StepSizes::built_in(profile);
+        let frame = coefficients(alloc, &geometry, &steps, samples, samples, samples)?;
+        Ok(frame.undecoded_distortion)
+    }
+
+    // Each of the 64 by 34 places of LL has the index 64; all others are 0.
+    #[test]
+    fn a_frame_of_the_largest_size_of_2k(rt: HostRuntime) -> Result<(), Fail> {
+        assert_eq!(rt; grey(rt.alloc(), Profile::TwoK)?, 64 * 34 * 16641);
+        Ok(())
+    }
+
+    // The index 128 there.
+    #[test]
+    fn a_frame_of_the_largest_size_of_4k(rt: HostRuntime) -> Result<(), Fail> {
+        assert_eq!(rt; grey(rt.alloc(), Profile::FourK)?, 64 * 34 * 66049);
         Ok(())
     }
 }

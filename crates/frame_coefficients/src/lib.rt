@@ -1,10 +1,11 @@
-//! The coefficients of a frame: the component transform, the wavelet transform and the quantiser, by
-//! ISO/IEC 15444-1, Annexes G.3, F and E, from three lists of samples to the index and sign of each place
-//! of the transformed planes, and the distortion that is left while none of them is decoded.
+//! The coefficients of a frame: the component transform, the wavelet transform and the quantiser,
+//! by ISO/IEC 15444-1, Annexes G.3, F and E, from three lists of samples to the index and sign of
+//! each place of the transformed planes, and the distortion while nothing of them is decoded.
 //!
-//! The contract of [`coefficients`] gives the exact lists and the exact distortion, and says that every
-//! magnitude is below `2^20`. That of [`quantise_plane`] says of each place of each band that it has the
-//! index by that band's step. The only refusal is out of memory.
+//! The contract of [`coefficients`] gives the exact lists and the exact distortion, and says that
+//! each magnitude of each band is below 2 to that band's number of magnitude bit-planes. That of
+//! [`quantise_plane`] says of each place of each band that it has the index by that band's step.
+//! The only refusal is out of memory.
 //!
 //! ```
 //! let geometry = Geometry::new(Profile::TwoK, 5, 1, 1);
@@ -18,9 +19,7 @@
 mod band;
 mod distortion;
 mod frame;
-mod plane;
 mod quantise;
 
 pub use frame::{FrameCoefficients, coefficients};
-pub use plane::CoefPlane;
 pub use quantise::quantise_plane;

@@ -1,13 +1,16 @@
 // The coefficients of a transformed plane.
-ghost use Rattle.std.specs.Prelude.{ℕ, ◌≡◌, ◌+◌, ◌*◌, ◌<◌, ◌≤◌, ◌^◌, ℤ, pos, length, slice_index_or};
+ghost use Rattle.std.specs.Prelude.{ℕ, ◌≡◌, ◌+◌, ◌*◌, ◌<◌, ◌≤◌, ◌^◌, ℤ, pos, length};
+ghost use Rattle.std.specs.Prelude.{slice_index_or};
 ghost use Rattle.std.specs.List.{All};
 ghost use Rattle.cine_nums.specs.Fixed.{Within30};
 ghost use Rattle.dz_quantiser.specs.Bands.{AreUsable};
 ghost use Rattle.dz_quantiser.specs.Index.{index_of};
 ghost use Rattle.dz_quantiser.specs.Coefficient.{Coefficient};
+ghost use Rattle.codeblock_views.specs.Magnitudes.{AreSmall};
+ghost use Rattle.frame_coefficients.specs.Planes.{AreBelow, ArePlain};
 ghost use Rattle.frame_coefficients.specs.Places.{coef_at, index_in, quantised};
 ghost use Rattle.cine_nums.specs.declared.orient.Orient.{Orient};
-ghost use Rattle.band_geometry.specs.Bands.{HasBand, band_of, IsPlaceIn, IsInBand};
+ghost use Rattle.band_geometry.specs.Bands.{HasBand, band_of, IsPlaceIn};
 
 use crate::band::{band_at, row_res};
 use band_geometry::Geometry;
@@ -19,9 +22,11 @@ fn quantise_run(cells: &[i32], band: BandQuantiser, from: usize, to: usize, coef
     requires within { to ≤ length cells.now }
     requires len { length coefs.old ≡ length cells.now }
     requires cells { All Within30 cells.now }
-    ensures before { (k : ℕ) (d : Coefficient) → k < from → slice_index_or coefs.new k d ≡ slice_index_or coefs.old k d }
+    ensures before { (k : ℕ) (d : Coefficient) → k < from →
+        slice_index_or coefs.new k d ≡ slice_index_or coefs.old k d }
     ensures done { (k : ℕ) (d : Coefficient) → from ≤ k → k < to →
-        slice_index_or coefs.new k d ≡ index_of (slice_index_or cells.now k (pos 0)) band.step band.range band.planes }
+        slice_index_or coefs.new k d ≡ index_of
+        (slice_index_or cells.now k (pos 0)) band.step band.range band.planes }
 {
     for i in from..to {
         coefs[i] = index(cells[i], band);
@@ -35,9 +40,12 @@ fn quantise_row(geometry: &Geometry, steps: &StepSizes, cells: &[i32], y: u32, c
     requires cells { All Within30 cells.now }
     requires places { length cells.now ≡ geometry.now.height * geometry.now.width }
     requires len { length coefs.old ≡ length cells.now }
-    ensures before { (k : ℕ) (d : Coefficient) → k < y * geometry.now.width → slice_index_or coefs.new k d ≡ slice_index_or coefs.old k d }
-    ensures done { (k : ℕ) (d : Coefficient) → y * geometry.now.width ≤ k → k < (y + 1) * geometry.now.width →
-        slice_index_or coefs.new k d ≡ coef_at geometry.now.levels geometry.now.width geometry.now.height steps.now cells.now k }
+    ensures before { (k : ℕ) (d : Coefficient) → k < y * geometry.now.width →
+        slice_index_or coefs.new k d ≡ slice_index_or coefs.old k d }
+    ensures done { (k : ℕ) (d : Coefficient) → y * geometry.now.width ≤ k →
+        k < (y + 1) * geometry.now.width →
+        slice_index_or coefs.new k d
+        ≡ coef_at geometry.now.levels geometry.now.width geometry.now.height steps.now cells.now k }
 {
     let row = row_res(geometry, y);
     let at = y as usize * geometry.width as usize;
@@ -56,11 +64,12 @@ pub fn quantise_plane(geometry: &Geometry, steps: &StepSizes, cells: &[i32], coe
     requires cells { All Within30 cells.now }
     requires places { length cells.now ≡ geometry.now.height * geometry.now.width }
     requires len { length coefs.old ≡ length cells.now }
-    ensures value { coefs.new ≡ quantised geometry.now.levels geometry.now.width geometry.now.height steps.now cells.now }
-    ensures magnitudes { All (λ q. q.magnitude < 2 ^ 20) coefs.new }
-    // By bands: each place of the plane is one of a band, and each place of each band has the index by
-    // that band's step.
-    ensures everywhere { (x y : ℕ) → x < geometry.now.width → y < geometry.now.height → IsInBand geometry.now x y }
+    ensures value { coefs.new
+        ≡ quantised geometry.now.levels geometry.now.width geometry.now.height steps.now cells.now }
+    ensures magnitudes { AreSmall coefs.new }
+    ensures below { AreBelow geometry.now steps.now coefs.new }
+    ensures plain { ArePlain coefs.new }
+    // each place of each band has the index by that band's step
     ensures bands { (r : ℕ) (o : Orient) (x y : ℕ) (d : Coefficient) → HasBand geometry.now r o →
         IsPlaceIn (band_of geometry.now r o) x y →
         slice_index_or coefs.new (y * geometry.now.width + x) d ≡

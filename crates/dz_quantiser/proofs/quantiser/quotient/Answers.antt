@@ -10,4 +10,6 @@ returns-then-band-eq0 c =
 pub returns-else-band-eq0 : goal.returns-else-band-eq0
 returns-else-band-eq0 c =
     rw (c.from-gain.ensures, c.from.ensures, c.from-else-band-eq0.ensures)
-    (by_division c.args.size (c.args.band.step.exponent - c.args.band.range) c.args.band.step.mantissa (omega arith) (omega arith))
+    (by_division c.args.size
+    (c.args.band.step.exponent - c.args.band.range) c.args.band.step.mantissa (omega arith)
+    (omega arith))

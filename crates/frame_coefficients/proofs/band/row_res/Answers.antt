@@ -1,6 +1,6 @@
 use Rattle.std.proofs.Common.{arith, ◌∙◌}
 use Rattle.band_geometry.specs.Sizes.{res_side}
-use Rattle.frame_coefficients.proofs.Resolutions.{step_down}
+use Rattle.band_geometry.proofs.ResolutionLemmas.{step_down}
 use Rattle.frame_coefficients.proofs.band.row_res.Goals as goal
 
 pub loop-res-preserved : goal.loop-res-preserved

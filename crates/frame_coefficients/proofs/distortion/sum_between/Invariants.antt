@@ -5,6 +5,7 @@ use Rattle.frame_coefficients.proofs.distortion.sum_between.Given as goal
 
 abbrev pub invariant-loop-i : goal.invariant-loop-i
 invariant-loop-i l = record {
-  so_far : sum_by undecoded_error (take l.from l.coefs) + l.sum ≡ sum_by undecoded_error (take l.i l.coefs);
+  so_far : sum_by undecoded_error (take l.from l.coefs) + l.sum
+      ≡ sum_by undecoded_error (take l.i l.coefs);
   small : l.sum ≤ 2 ^ 42 * (l.i - l.from);
 }

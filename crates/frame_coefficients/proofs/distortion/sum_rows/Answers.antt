@@ -9,4 +9,5 @@ unfolding undecoded_distortion
 returns-clause-value c =
     let last : c.loop-y.y ≡ c.args.height = omega arith in
     let all : length c.args.coefs.now ≤ c.loop-y.y * c.args.width = rw last (omega arith) in
-    c.loop-y.invariant.so_far ∙ ap (sum_by undecoded_error) (take_all (c.loop-y.y * c.args.width) c.args.coefs.now all)
+    c.loop-y.invariant.so_far ∙ ap (sum_by undecoded_error)
+    (take_all (c.loop-y.y * c.args.width) c.args.coefs.now all)

@@ -7,5 +7,6 @@ abbrev pub invariant-loop-i : goal.invariant-loop-i
 invariant-loop-i l = record {
   before : (k : ℕ) (d : Coefficient) → k < l.from → get_or l.coefs k d ≡ get_or l.initial.coefs k d;
   done : (k : ℕ) (d : Coefficient) → l.from ≤ k → k < l.i →
-      get_or l.coefs k d ≡ index_of (get_or l.cells k (pos 0)) l.band.step l.band.range l.band.planes;
+      get_or l.coefs k d ≡ index_of (get_or l.cells k
+      (pos 0)) l.band.step l.band.range l.band.planes;
 }

@@ -16,8 +16,11 @@ returns-then-not-all c =
     let high : c.loop-res.res ≤ c.args.levels = omega arith in (
       λ never. search rules,
       λ usable.
-          let hl : IsUsableAt c.args.self.now c.loop-res.res HL = usable.above c.loop-res.res HL low high in
-          let lh : IsUsableAt c.args.self.now c.loop-res.res LH = usable.above c.loop-res.res LH low high in
-          let hh : IsUsableAt c.args.self.now c.loop-res.res HH = usable.above c.loop-res.res HH low high in
+          let hl : IsUsableAt c.args.self.now c.loop-res.res HL =
+          usable.above c.loop-res.res HL low high in
+          let lh : IsUsableAt c.args.self.now c.loop-res.res LH =
+          usable.above c.loop-res.res LH low high in
+          let hh : IsUsableAt c.args.self.now c.loop-res.res HH =
+          usable.above c.loop-res.res HH low high in
           search rules,
     )
