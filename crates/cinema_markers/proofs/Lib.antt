@@ -1,3 +1,17 @@
 pub mod Appends
 pub mod BuiltIn
+pub mod EndLemmas
+pub mod FieldLaws
+pub mod FoundLemmas
+pub mod HasEnd
+pub mod HasStands
+pub mod Once
 pub mod Precincts
+pub mod ReadBack
+pub mod RowLaws
+pub mod SegmentLaws
+pub mod Spelled
+pub mod Standing
+pub mod ValueLemmas
+pub mod Walking
+pub mod Written

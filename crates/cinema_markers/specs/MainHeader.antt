@@ -2,6 +2,7 @@
 -- to A.7; the values of the profiles, A.10). A length counts itself and not its marker.
 use Rattle.std.specs.Prelude.{ℕ, ◌+◌, ◌*◌, List, [], ◌∷◌, ◌++◌, length, map, replicate}
 use Rattle.std.specs.List.{flat_map}
+use Rattle.cine_nums.specs.Coding.{block_exponent, precinct_byte, progression}
 use Rattle.cine_nums.specs.declared.profile.Profile.{Profile}
 use Rattle.cine_nums.specs.declared.profile.Profile.TheVariants.{TwoK, FourK}
 use Rattle.dz_quantiser.specs.declared.band.BandStep.{BandStep}
@@ -34,17 +35,19 @@ siz profile width height =
 
 -- the sizes of precincts (Table A.21): 128 by 128 at resolution 0, and 256 by 256 at the one above each level
 abbrev pub precinct_sizes : ℕ → List Field
-precinct_sizes levels = Byte 0x77 ∷ replicate levels (Byte 0x88)
+precinct_sizes levels = Byte (precinct_byte 0) ∷ replicate levels (Byte (precinct_byte 1))
 
 -- coding style (A.6.1): precincts are given; the packets in the order component, position, resolution,
 -- layer; one layer; the field of the component transform; the levels; code blocks of 32 by 32 and no
 -- variant of their coding; the irreversible 9-7 wavelet; the sizes of precincts
+abbrev pub cod_head : ℕ → ℕ → ℕ → List Field
+cod_head size levels flag =
+    Short 0xFF52 ∷ Short size ∷ Byte 1
+    ∷ Byte progression ∷ Short 1 ∷ Byte flag
+    ∷ Byte levels ∷ Byte block_exponent ∷ Byte block_exponent ∷ Byte 0 ∷ Byte 0 ∷ []
+
 abbrev pub cod : ℕ → ℕ → List Field
-cod levels flag =
-    Short 0xFF52 ∷ Short (13 + levels) ∷ Byte 1
-    ∷ Byte 4 ∷ Short 1 ∷ Byte flag
-    ∷ Byte levels ∷ Byte 3 ∷ Byte 3 ∷ Byte 0 ∷ Byte 0
-    ∷ precinct_sizes levels
+cod levels flag = cod_head (13 + levels) levels flag ++ precinct_sizes levels
 
 -- the step of a band (Table A.30): its exponent above a mantissa of 11 bits
 abbrev pub step_field : BandStep → Field
@@ -59,7 +62,7 @@ qcd levels steps =
 -- a change of the progression order (A.6.6): the resolutions from this one up to, and without, that one, of
 -- components 0, 1 and 2, of the first layer, in the order component, position, resolution, layer
 abbrev pub poc_entry : ℕ → ℕ → List Field
-poc_entry from to = Byte from ∷ Byte 0 ∷ Short 1 ∷ Byte to ∷ Byte 3 ∷ Byte 4 ∷ []
+poc_entry from to = Byte from ∷ Byte 0 ∷ Short 1 ∷ Byte to ∷ Byte 3 ∷ Byte progression ∷ []
 
 -- the changes of the 4K profile: all resolutions but the highest first, and then the highest; in the 2K
 -- profile there is no such segment

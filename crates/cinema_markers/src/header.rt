@@ -24,7 +24,15 @@ pub struct MainHeader {
     /// The lengths that TLM tells, in the order of the tile-parts: the bytes of each from its marker SOT
     /// on. There are 3 tile-parts in the 2K profile, and 6 in the 4K profile.
     pub parts: ArrayVec<u32, 6>,
-    /// The places of these lengths in a header that was read, counted in bytes from SOC. Writing doesn't
-    /// look at them.
+}
+
+/// A main header that was read, and where it stands in its bytes.
+#[derive(Drop)]
+pub struct MainRead {
+    /// What it says.
+    pub main: MainHeader,
+    /// The places of the lengths of TLM, counted in bytes from SOC, in the order of the tile-parts.
     pub parts_at: ArrayVec<u32, 6>,
+    /// How many bytes the header has: the place of the first marker SOT.
+    pub bytes: u32,
 }

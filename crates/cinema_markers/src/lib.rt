@@ -13,18 +13,27 @@
 //!     flag: 1,
 //!     steps: StepSizes::built_in(Profile::TwoK),
 //!     parts,
-//!     parts_at: ArrayVec::new(),
 //! };
 //! assert_eq!(main_bytes(&header).len(), 129);
 //! ```
 #![tactic(auto)]
 
+mod cod;
 mod fields;
+mod found;
 mod header;
+mod marker;
+mod poc;
+mod qcd;
+mod read;
+mod refusal;
 mod segments;
+mod siz;
 #[cfg(test)]
 mod tests;
+mod tlm;
 mod write;
 
 pub use header::MainHeader;
+pub use refusal::MarkerRefusal;
 pub use write::main_bytes;

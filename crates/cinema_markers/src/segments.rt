@@ -1,5 +1,5 @@
 // The segments of a main header, one by one.
-ghost use Rattle.std.specs.Prelude.{◌≡◌, ◌++◌, ◌+◌, ◌*◌, ◌≤◌, ◌<◌, length};
+ghost use Rattle.std.specs.Prelude.{◌≡◌, ◌++◌, ◌+◌, ◌*◌, ◌≤◌, ◌<◌, ◌^◌, ℕ, length, slice_index};
 ghost use Rattle.std.specs.List.{All};
 ghost use Rattle.arrayvec.specs.ArrayVec.{array_vec_len};
 ghost use Rattle.cinema_markers.specs.Fields.{segment};
@@ -7,10 +7,10 @@ ghost use Rattle.cinema_markers.specs.MainHeader.{rsiz, soc, siz, precinct_sizes
 
 use crate::fields::{Field, push_fields};
 use arrayvec::ArrayVec;
-use cine_nums::Profile;
+use cine_nums::{BLOCK_EXPONENT, PROGRESSION, Profile, precinct_byte};
 use dz_quantiser::{BandStep, StepSizes};
 
-// The markers (Table A.2).
+/// The markers (Table A.2).
 const SOC: u16 = 0xFF4F;
 
 const SIZ: u16 = 0xFF51;
@@ -22,9 +22,6 @@ const QCD: u16 = 0xFF5C;
 const POC: u16 = 0xFF5F;
 
 const TLM: u16 = 0xFF55;
-
-/// The progression order component, position, resolution, layer (Table A.16).
-const CPRL: u8 = 4;
 
 /// Rsiz of a profile.
 fn rsiz(profile: Profile) -> u16
@@ -81,9 +78,9 @@ fn push_precinct_sizes(out: &mut ArrayVec<u8, 192>, levels: u8)
     ensures items { out.new.items ≡ out.old.items ++ segment (precinct_sizes levels) }
     ensures len { array_vec_len out.new ≡ array_vec_len out.old + (1 + levels) }
 {
-    push_fields(out, &[Field::Byte(0x77)]);
+    push_fields(out, &[Field::Byte(precinct_byte(0))]);
     for _level in 0..levels {
-        push_fields(out, &[Field::Byte(0x88)]);
+        push_fields(out, &[Field::Byte(precinct_byte(1))]);
     }
 }
 
@@ -101,13 +98,13 @@ pub fn push_cod(out: &mut ArrayVec<u8, 192>, levels: u8, flag: u8)
             Field::Short(13 + u16::from(levels)),
             // precincts are given; the order, one layer, the component transform
             Field::Byte(1),
-            Field::Byte(CPRL),
+            Field::Byte(PROGRESSION),
             Field::Short(1),
             Field::Byte(flag),
             // the levels; code blocks of 32 by 32, no variant of their coding; the 9-7 wavelet
             Field::Byte(levels),
-            Field::Byte(3),
-            Field::Byte(3),
+            Field::Byte(BLOCK_EXPONENT),
+            Field::Byte(BLOCK_EXPONENT),
             Field::Byte(0),
             Field::Byte(0),
         ],
@@ -167,13 +164,13 @@ pub fn push_poc(out: &mut ArrayVec<u8, 192>, profile: Profile, levels: u8)
                 Field::Short(1),
                 Field::Byte(levels),
                 Field::Byte(3),
-                Field::Byte(CPRL),
+                Field::Byte(PROGRESSION),
                 Field::Byte(levels),
                 Field::Byte(0),
                 Field::Short(1),
                 Field::Byte(levels + 1),
                 Field::Byte(3),
-                Field::Byte(CPRL),
+                Field::Byte(PROGRESSION),
             ],
         ),
     }
@@ -184,6 +181,7 @@ pub fn push_tlm(out: &mut ArrayVec<u8, 192>, parts: &[u32])
     requires room { array_vec_len out.old ≤ 140 }
     requires parts { length parts.now ≤ 6 }
     ensures items { out.new.items ≡ out.old.items ++ segment (tlm parts.now) }
+    ensures short { (k : ℕ) → slice_index parts.now k < 2 ^ 32 }
     ensures len { array_vec_len out.new ≡ array_vec_len out.old + (6 + 5 * length parts.now) }
 {
     push_fields(

@@ -57,7 +57,6 @@ fn bytes_of(profile: Profile, width: u32, height: u32) -> ArrayVec<u8, 192>
         flag: 1,
         steps: StepSizes::built_in(profile),
         parts,
-        parts_at: ArrayVec::new(),
     })
 }
 

@@ -1,5 +1,7 @@
 // Writing a main header.
-ghost use Rattle.std.specs.Prelude.{◌≡◌, ◌+◌, ◌*◌, ◌≤◌, ◌<◌};
+ghost use Rattle.std.specs.Prelude.{◌≡◌, ◌+◌, ◌*◌, ◌≤◌, ◌<◌, ◌++◌, ◌∷◌, ℕ, List, length};
+ghost use Rattle.dz_quantiser.specs.Bands.{planes_of};
+ghost use Rattle.cinema_markers.specs.Words.{HasMain, read_of};
 ghost use Rattle.std.specs.List.{All};
 ghost use Rattle.arrayvec.specs.ArrayVec.{array_vec_len};
 ghost use Rattle.cine_nums.specs.Profile.{levels_of, parts_of, max_width_of, max_height_of};
@@ -28,6 +30,9 @@ pub fn main_bytes(m: &MainHeader) -> ArrayVec<u8, 192>
     requires parts { array_vec_len m.now.parts ≡ parts_of m.now.profile }
     ensures bytes { result.items ≡ main_header_of m.now }
     ensures length { array_vec_len result ≡ main_length m.now.profile }
+    // Where each band has a plane it is a main header that is read back, whatever follows SOT.
+    ensures spells { All (λ step. 1 ≤ planes_of m.now.steps.guard step.exponent) m.now.steps.bands.items →
+        (rest : List ℕ) → HasMain (result.items ++ 0xFF ∷ 0x90 ∷ rest) (read_of m.now) }
 {
     let mut out = ArrayVec::new();
     push_siz(&mut out, m.profile, m.width, m.height);

@@ -36,7 +36,6 @@ header_2k width height part_lengths = record {
   flag = 1;
   steps = built_in_steps TwoK;
   parts = record { items = part_lengths };
-  parts_at = record { items = [] };
 }
 
 -- the codestream of a 2K frame of this size whose tile-parts have these packets

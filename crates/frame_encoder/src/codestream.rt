@@ -37,7 +37,6 @@ fn main_header(width: u32, height: u32, part: u32) -> ArrayVec<u8, 192>
         flag: 1,
         steps: StepSizes::built_in(Profile::TwoK),
         parts,
-        parts_at: ArrayVec::new(),
     })
 }
 
