@@ -27,7 +27,7 @@ next_from : (c : ℕ) (done : List Step) (s : Step) (r : List Step) → FollowOn
 next_from c [] s r h = sym h.0
 next_from c (t ∷ d) s r h = next_from t.to d s r h.1
 
-head_from : (s : Step) (done xs : List Step) → IsHead s xs → FollowOn 0 (done ++ xs)
+pub head_from : (s : Step) (done xs : List Step) → IsHead s xs → FollowOn 0 (done ++ xs)
     → end_of 0 done ≡ s.from
 head_from s done [] h f = absurd h
 head_from s done (t ∷ r) h f = next_from 0 done t r f ∙ ap (λ (x : Step). x.from) h

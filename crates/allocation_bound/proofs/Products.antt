@@ -70,7 +70,7 @@ covers m n h w p some reach cover =
     cancel_le n (m * w) (scale * p) some (omega arith)
 
 -- slopes are ordered
-steep_by : (g n h m k l : ℕ) → 1 ≤ m → h * n ≤ g * m → k * m ≤ h * l → k * n ≤ g * l
+pub steep_by : (g n h m k l : ℕ) → 1 ≤ m → h * n ≤ g * m → k * m ≤ h * l → k * n ≤ g * l
 steep_by g n h m k l some a b =
     let x : h * n * l ≤ g * m * l = mul-le-mul_right l a in
     let y : k * m * n ≤ h * l * n = mul-le-mul_right n b in

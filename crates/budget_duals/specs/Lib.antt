@@ -1,4 +1,13 @@
 pub mod Certificate
+pub mod Entries
+pub mod EntryLaws
+pub mod Going
 pub mod Held
+pub mod Listed
+pub mod ListedLaws
 pub mod Members
+pub mod Offers
 pub mod Price
+pub mod Queue
+pub mod Tree
+pub mod Walking

@@ -9,15 +9,29 @@
 #![tactic(auto)]
 
 mod certificate;
+mod entry;
 mod held;
+mod holdings;
 mod limits;
+mod listed;
 mod members;
+mod moves;
+mod offer;
+mod offers;
 mod price;
+mod queue;
 #[cfg(test)]
 mod tests;
+mod tree;
+mod walking;
 
 pub use certificate::{AllocateRefusal, Certificate, RefusedStep};
 pub use held::Held;
+pub use holdings::Holdings;
 pub use limits::Limits;
+pub use listed::ListedOffers;
 pub use members::Members;
+pub use offer::{Offer, Slope};
+pub use offers::Offers;
 pub use price::Price;
+pub use tree::Tree;

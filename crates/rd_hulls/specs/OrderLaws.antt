@@ -68,13 +68,20 @@ reversed a b = elim (three a b) [
   ]
 ]
 
-slope_total : IsTotalOrder slope_cmp
-slope_total = record {
-  antisymm = λ s t. reversed (t.gain * s.len) (s.gain * t.len);
-  trans = λ s t u first second. is_less _ _ (steep_trans s.gain s.len t.gain t.len u.gain u.len u.longer
+-- whatever has a gain for some bytes is ordered by it, the steeper one first
+pub slopes_total : {X : Type 0} (gain len : X → ℕ) → ((x : X) → 1 ≤ len x)
+    → IsTotalOrder (λ (x y : X). nat_cmp (gain y * len x) (gain x * len y))
+slopes_total gain len some = record {
+  antisymm = λ s t. reversed (gain t * len s) (gain s * len t);
+  trans = λ s t u first second. is_less _ _
+      (steep_trans (gain s) (len s) (gain t) (len t) (gain u) (len u) (some u)
       (less_is _ _ first) (less_is _ _ second));
-  congr = λ s t u same. level_congr s.gain s.len t.gain t.len u.gain u.len s.longer t.longer (equal_is _ _ same);
+  congr = λ s t u same. level_congr (gain s) (len s) (gain t) (len t) (gain u) (len u) (some s) (some t)
+      (equal_is _ _ same);
 }
+
+slope_total : IsTotalOrder slope_cmp
+slope_total = slopes_total (λ (s : Step). s.gain) (λ (s : Step). s.len) (λ s. s.longer)
 
 field_total : IsTotalOrder field_cmp
 field_total = search (comparing, rules) depth 12

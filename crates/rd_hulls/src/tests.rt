@@ -74,7 +74,7 @@ fn has_room_for_58_steps(rt: HostRuntime) {
         let gain = 115u128.saturating_sub(2 * u128::from(from));
         assert_eq!(rt;
             (step.from, step.to, step.len, step.gain),
-            (from, from + 1, 1, gain)
+            (from, from.saturating_add(1), 1, gain)
         );
     }
 }
