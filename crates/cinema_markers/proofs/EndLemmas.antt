@@ -2,6 +2,7 @@
 use Rattle.std.proofs.Common.{◌≡◌, ℕ, ◌+◌, ◌*◌, ◌/◌, ◌<◌, ◌≤◌, Bool, true, false, not, ◌==◌, ◌&&◌, List}
 use Rattle.std.proofs.Common.{[], ◌∷◌, ◌++◌, map, length, Option, Some, None, is_none, arith, ◌∙◌, sym, ap}
 use Rattle.std.proofs.Common.{refl, subst, if◌then◌else◌, ◌||◌, nat_lt}
+use Rattle.std.proofs.Common.{Result, Ok, Err, IfOk, MatchResult}
 use Rattle.std.specs.Prelude.{slice_index}
 use Rattle.std.specs.Option.{unwrap_or}
 use Rattle.std.specs.List.{range_with_len}
@@ -18,13 +19,13 @@ use Rattle.cinema_markers.specs.Tables.{cod_block_rows, precinct_rows, qcd_rows,
 use Rattle.cinema_markers.specs.Tables.{tile_rows, field_rows, rows_for, marker_rows, missing_rows}
 use Rattle.cinema_markers.specs.Tables.{band_row, bands_rows, change_rows, end_rows, next_rows, room_rows}
 use Rattle.cinema_markers.specs.Tables.{profile_at, entry_size}
-use Rattle.cinema_markers.specs.Reading.{found_in, StandsUpTo, IsEnd, EndsAt, IsReadable}
+use Rattle.cinema_markers.specs.Reading.{found_in, StandsUpTo, EndsAt, HasFault, IsReadable}
 use Rattle.cinema_markers.specs.declared.found.Found.{Found}
 use Rattle.cinema_markers.specs.declared.refusal.MarkerRefusal.{MarkerRefusal}
 use Rattle.cinema_markers.specs.declared.refusal.MarkerRefusal.TheVariants.{BadQcd}
 use Rattle.cinema_markers.proofs.SegmentLaws.{none_apply, same, not_below, each_row}
 use Rattle.cinema_markers.proofs.Standing.{keeps_cod, keeps_qcd, keeps_tlm}
-use Rattle.cinema_markers.proofs.FoundLemmas.{PassedAs, passed_as, siz_is_found, first_is_siz, StandsAt}
+use Rattle.cinema_markers.proofs.FoundLemmas.{passed_as, siz_is_found, first_is_siz, StandsAt}
 use Rattle.cinema_markers.proofs.FoundLemmas.{found_stands, stood_as, stood_after_siz}
 
 -- the profile that SIZ gives
@@ -289,7 +290,7 @@ is_readable bytes found at ends =
     let q_within = q.inside in
     let q_end = q.to_is in
     let t_long : word_at bytes (unwrap_or found.tlm 0 + 2) ≡ 4 + parts_of (profile_at bytes found.siz)
-        * entry_size (slice_index bytes (unwrap_or found.tlm 0 + 5)) =
+    * entry_size (slice_index bytes (unwrap_or found.tlm 0 + 5)) =
     t.long ∙ ap (λ n. 4 + n * entry_size (slice_index bytes (unwrap_or found.tlm 0 + 5))) (sym parts) in
     let t_within = t.inside in
     record {
@@ -299,3 +300,8 @@ is_readable bytes found at ends =
       qcd = omega arith;
       tlm = omega arith;
     }
+
+pub readable_read : (bytes : List ℕ) (r : Result (Found × ℕ) MarkerRefusal) →
+    MatchResult r (λ x. EndsAt bytes x.0 x.1) (HasFault bytes) → IfOk r (λ x. IsReadable bytes x.0)
+readable_read bytes (Ok x) is = is_readable bytes x.0 x.1 is
+readable_read bytes (Err e) is = tt

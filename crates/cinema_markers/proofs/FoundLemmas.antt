@@ -1,17 +1,15 @@
 -- What is found in a header whose segments stand: SIZ first, each other kind at most once, and each at
 -- a place where its segment stands.
-use Rattle.std.proofs.Common.{◌≡◌, ◌⊎◌, inl, inr, ℕ, suc, ◌+◌, ◌<◌, ◌≤◌, Bool, true, false, not, ◌==◌}
+use Rattle.std.proofs.Common.{◌≡◌, ℕ, ◌+◌, ◌≤◌, Bool, true, false, not, ◌==◌}
 use Rattle.std.proofs.Common.{◌&&◌, List, [], ◌∷◌, ◌++◌, length, Option, Some, None, is_none, is_some}
 use Rattle.std.proofs.Common.{arith, ◌∙◌, sym, ap, refl, subst, if◌then◌else◌}
 use Rattle.std.proofs.lemmas.Bool.Decides.{nat_tests}
-use Rattle.cine_nums.specs.declared.profile.Profile.{Profile}
-use Rattle.cine_nums.specs.declared.profile.Profile.TheVariants.{TwoK, FourK}
 use Rattle.cine_nums.specs.Bytes.{word_at}
 use Rattle.cine_nums.specs.Faults.{first_fault}
 use Rattle.cine_nums.specs.Profile.{is_four_k}
 use Rattle.cine_nums.proofs.FaultLemmas.{none_of_both}
 use Rattle.cinema_markers.specs.Tables.{marker_rows, room_rows, field_rows, end_rows, next_rows}
-use Rattle.cinema_markers.specs.Tables.{feature_of, is_allowed, profile_at, noted}
+use Rattle.cinema_markers.specs.Tables.{is_allowed, profile_at}
 use Rattle.cinema_markers.specs.Reading.{found_in, Passed, StandsUpTo}
 use Rattle.cinema_markers.specs.declared.found.Found.{Found}
 use Rattle.cinema_markers.proofs.SegmentLaws.{none_apply, not_below}

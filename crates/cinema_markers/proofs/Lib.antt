@@ -1,13 +1,17 @@
 pub mod Appends
+pub mod BackLemmas
 pub mod BuiltIn
+pub mod EndHas
 pub mod EndLemmas
 pub mod FieldLaws
 pub mod FoundLemmas
 pub mod HasEnd
 pub mod HasStands
+pub mod MapLemmas
 pub mod Once
 pub mod Precincts
 pub mod ReadBack
+pub mod ReadLemmas
 pub mod RowLaws
 pub mod SegmentLaws
 pub mod Spelled

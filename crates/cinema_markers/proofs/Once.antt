@@ -1,5 +1,5 @@
 -- The segments of a main header are read in one way alone.
-use Rattle.std.proofs.Common.{◌≡◌, ◌⊎◌, inl, inr, ℕ, ◌+◌, ◌<◌, ◌≤◌, List, [], ◌∷◌, length, Some, None, Result, Ok, Err, MatchResult, arith, ◌∙◌, sym, ap, refl, subst}
+use Rattle.std.proofs.Common.{◌≡◌, ◌⊎◌, inl, inr, ℕ, ◌+◌, ◌<◌, ◌≤◌, List, [], ◌∷◌, length, Some, None, arith, ◌∙◌, sym, ap, refl, subst}
 use Rattle.cine_nums.specs.Bytes.{word_at}
 use Rattle.cine_nums.specs.Faults.{first_fault}
 use Rattle.cinema_markers.specs.Tables.{soc_rows, next_rows}
@@ -68,7 +68,7 @@ fault_stops : (bytes before : List ℕ) (at : ℕ) (e : MarkerRefusal) → first
     Stops bytes before at
 fault_stops bytes before at e is to passed = let none = passed.none in cc
 
-soc_stands : (bytes before : List ℕ) (at : ℕ) → StandsUpTo bytes before at → first_fault (soc_rows bytes) ≡ None
+pub soc_stands : (bytes before : List ℕ) (at : ℕ) → StandsUpTo bytes before at → first_fault (soc_rows bytes) ≡ None
 soc_stands bytes [] at (soc, is) = soc
 soc_stands bytes (k ∷ before) at (stands, passed) = soc_stands bytes before k stands
 
@@ -100,18 +100,3 @@ fault_once bytes e f (inr x) (inr y) =
     ∙ ap (λ t. first_fault (next_rows bytes (found_in bytes x.before) t)) (sym same.1) ∙ x.applies in
     let second = y.applies in
     cc
-
--- the answer is the only one
-pub end_answered : (bytes : List ℕ) (r : Result (Found × ℕ) MarkerRefusal) →
-    MatchResult r (λ x. EndsAt bytes x.0 x.1) (HasFault bytes) →
-    (found : Found) (at : ℕ) → EndsAt bytes found at → r ≡ Ok (found, at)
-end_answered bytes (Ok x) is found at here =
-    let same = ends_once bytes x.0 found x.1 at is here in
-    ap (λ f. Ok (f, x.1)) same.0 ∙ ap (λ t. Ok (found, t)) same.1
-end_answered bytes (Err e) is found at here = absurd (end_or_fault bytes found at e here is)
-
-pub fault_answered : (bytes : List ℕ) (r : Result (Found × ℕ) MarkerRefusal) →
-    MatchResult r (λ x. EndsAt bytes x.0 x.1) (HasFault bytes) →
-    (fault : MarkerRefusal) → HasFault bytes fault → r ≡ Err fault
-fault_answered bytes (Ok x) is fault here = absurd (end_or_fault bytes x.0 x.1 fault is here)
-fault_answered bytes (Err e) is fault here = ap (λ f. Err f) (fault_once bytes e fault is here)

@@ -10,8 +10,6 @@ use Rattle.cine_nums.specs.Profile.{parts_of}
 use Rattle.cinema_markers.proofs.Spelled.{entry, size, index, turned}
 use Rattle.cinema_markers.specs.Fields.{segment}
 use Rattle.cinema_markers.proofs.FieldLaws.{AreBytes, at_are_spelled}
-use Rattle.dz_quantiser.specs.declared.band.BandStep.{BandStep}
-use Rattle.dz_quantiser.specs.declared.steps.StepSizes.{StepSizes}
 use Rattle.cine_nums.specs.Bytes.{word_at, long_at}
 use Rattle.cinema_markers.specs.Fits.{AreAt}
 use Rattle.cinema_markers.specs.MainHeader.{qcd, poc, step_field}

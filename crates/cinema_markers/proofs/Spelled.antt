@@ -33,7 +33,7 @@ pub widths_are : (fields : List Field) → length (segment fields) ≡ widths fi
 widths_are [] = refl
 widths_are (field ∷ fields) = omega (arith, length-append (field_bytes field) (segment fields), width_is field, widths_are fields)
 
-same_widths : (n v : ℕ) → widths (replicate n (Byte v)) ≡ n
+pub same_widths : (n v : ℕ) → widths (replicate n (Byte v)) ≡ n
 same_widths zero v = refl
 same_widths (suc n) v = omega (arith, same_widths n v)
 
@@ -56,8 +56,7 @@ siz_fit w h tw th profile w2 h2 sw sh =
     let o : 1 < 256 = omega arith in
     let e : 11 < 256 = omega arith in
     let wide : w < 4294967296 = omega (arith, small_width profile) in
-    let high : h < 4294967296 = omega (arith, small_height profile) in
-    (
+    let high : h < 4294967296 = omega (arith, small_height profile) in (
       omega arith,
       (
         omega arith,
@@ -109,6 +108,10 @@ siz_fit w h tw th profile w2 h2 sw sh =
 
 pub cod_fit : (levels flag : ℕ) → levels ≤ 6 → flag ≤ 1 → AreFit (cod levels flag)
 cod_fit levels flag few bit = (
+  omega arith,
+  (
+    omega arith,
+    (
       omega arith,
       (
         omega arith,
@@ -126,13 +129,7 @@ cod_fit levels flag few bit = (
                     omega arith,
                     (
                       omega arith,
-                      (
-                        omega arith,
-                        (
-                          omega arith,
-                          (omega arith, same_fit levels 0x88 (omega arith)),
-                        ),
-                      ),
+                      (omega arith, same_fit levels 0x88 (omega arith)),
                     ),
                   ),
                 ),
@@ -141,10 +138,16 @@ cod_fit levels flag few bit = (
           ),
         ),
       ),
-    )
+    ),
+  ),
+)
 
 pub poc_fit : (levels : ℕ) → levels ≤ 6 → AreFit (poc FourK levels)
 poc_fit levels few = (
+  omega arith,
+  (
+    omega arith,
+    (
       omega arith,
       (
         omega arith,
@@ -156,19 +159,15 @@ poc_fit levels few = (
               omega arith,
               (
                 omega arith,
-                (
-                  omega arith,
-                  (
-                    omega arith,
-                    (omega arith, (omega arith, (omega arith, (omega arith, (omega arith, (omega arith, tt)))))),
-                  ),
-                ),
+                (omega arith, (omega arith, (omega arith, (omega arith, (omega arith, (omega arith, tt)))))),
               ),
             ),
           ),
         ),
       ),
-    )
+    ),
+  ),
+)
 
 pub siz_spelled : (bytes more : List ℕ) (at w h tw th : ℕ) (profile : Profile) → at ≤ length bytes →
     drop at bytes ≡ segment (siz_with profile w h tw th) ++ more → tw < 4294967296 → th < 4294967296 →
@@ -241,7 +240,7 @@ com_spelled bytes content more at profile below short is =
     }
 
 -- QCD
-step_widths : (bands : List BandStep) → widths (map step_field bands) ≡ 2 * length bands
+pub step_widths : (bands : List BandStep) → widths (map step_field bands) ≡ 2 * length bands
 step_widths [] = refl
 step_widths (step ∷ bands) = omega (arith, step_widths bands)
 
@@ -307,7 +306,7 @@ entries_fit true false (n ∷ parts) (here, later) = (omega arith, (here, entrie
 entries_fit false true (n ∷ parts) (here, later) = (omega arith, (here, entries_fit false true parts later))
 entries_fit false false (n ∷ parts) (here, later) = (omega arith, (here, entries_fit false false parts later))
 
-entry_widths : (b c : Bool) (parts : List ℕ) → widths (flat_map (entry b c) parts) ≡ size b c * length parts
+pub entry_widths : (b c : Bool) (parts : List ℕ) → widths (flat_map (entry b c) parts) ≡ size b c * length parts
 entry_widths b c [] = by_size (size b c)
   where
     by_size : (n : ℕ) → 0 ≡ n * 0

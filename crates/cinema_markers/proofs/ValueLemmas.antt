@@ -1,6 +1,6 @@
 -- A main header that is spelled says what is read at the places of its segments.
 use Rattle.std.proofs.Common.{◌≡◌, ℕ, zero, suc, ◌+◌, ◌*◌, ◌/◌, ◌%◌, ◌<◌, ◌≤◌, Bool, true, false}
-use Rattle.std.proofs.Common.{◌==◌, ◌||◌, List, [], ◌∷◌, ◌++◌, map, drop, Option, Some, arith, ◌∙◌, sym}
+use Rattle.std.proofs.Common.{◌==◌, ◌||◌, List, [], ◌∷◌, ◌++◌, map, drop, Some, arith, ◌∙◌, sym}
 use Rattle.std.proofs.Common.{ap, refl, length, append_assoc, get_or, if◌then◌else◌}
 use Rattle.std.specs.Prelude.{slice_index}
 use Rattle.std.specs.Option.{unwrap_or}
@@ -15,14 +15,14 @@ use Rattle.dz_quantiser.specs.declared.steps.StepSizes.{StepSizes}
 use Rattle.cinema_markers.specs.Fields.{segment}
 use Rattle.cinema_markers.specs.Fits.{AreAt}
 use Rattle.cinema_markers.specs.MainHeader.{cod, qcd, step_field}
-use Rattle.cinema_markers.specs.Tables.{profile_at, noted, entry_place, index_size}
+use Rattle.cinema_markers.specs.Tables.{profile_at, entry_place, index_size}
 use Rattle.cinema_markers.specs.Reading.{found_in}
-use Rattle.cinema_markers.specs.Value.{step_with, band_step, steps_at, part_place, part_length}
+use Rattle.cinema_markers.specs.Value.{step_with, band_step, part_place, part_length}
 use Rattle.cinema_markers.specs.Value.{main_at}
 use Rattle.cinema_markers.specs.Words.{MainSegment, MainWords, coding, quantisation, progression}
 use Rattle.cinema_markers.specs.Words.{lengths, comment, siz_with, tlm_with, spelled_segment}
 use Rattle.cinema_markers.specs.Words.{spelled_upto, main_words, places_upto, marker_of, count_of}
-use Rattle.cinema_markers.specs.Words.{IsSpelled, IsStep, MainFits, HasMain}
+use Rattle.cinema_markers.specs.Words.{IsSpelled, IsStep, HasMain}
 use Rattle.cinema_markers.specs.declared.found.Found.{Found}
 use Rattle.cinema_markers.specs.declared.header.MainHeader.{MainHeader}
 use Rattle.cinema_markers.specs.declared.header.MainRead.{MainRead}
@@ -274,21 +274,21 @@ value_is bytes read has =
     let levels : m.levels ≡ slice_index bytes (unwrap_or found.cod 0 + 9) =
     sym (ap (λ o. slice_index bytes (unwrap_or o 0 + 9)) c.found_is ∙ cf.1.1.1.1.1.1.0) in
     let bands : m.steps.bands.items
-        ≡ map (band_step bytes (unwrap_or found.qcd 0))
-        (range_with_len 0 (3 * slice_index bytes (unwrap_or found.cod 0 + 9) + 1)) =
+    ≡ map (band_step bytes (unwrap_or found.qcd 0))
+    (range_with_len 0 (3 * slice_index bytes (unwrap_or found.cod 0 + 9) + 1)) =
     bands_are bytes q.place m.levels m.steps qf fits.bands fits.steps
     ∙ ap (λ o. map (band_step bytes (unwrap_or o 0)) (range_with_len 0 (3 * m.levels + 1))) (sym q.found_is)
     ∙ ap (λ l. map (band_step bytes (unwrap_or found.qcd 0)) (range_with_len 0 (3 * l + 1))) levels in
     let count : parts_of m.profile ≡ parts_of (profile_at bytes found.siz) = ap parts_of (sym profile) in
     let parts : m.parts.items ≡ map (part_length bytes (unwrap_or found.tlm 0))
-        (range_with_len 0 (parts_of (profile_at bytes found.siz))) =
+    (range_with_len 0 (parts_of (profile_at bytes found.siz))) =
     parts_are bytes m.parts.items t.place t.ztlm t.stlm (parts_of (profile_at bytes found.siz)) tf
     (fits.parts ∙ count)
     ∙ ap (λ o. map (part_length bytes (unwrap_or o 0))
     (range_with_len 0 (parts_of (profile_at bytes found.siz)))) (sym t.found_is) in
     let kind : t.stlm ≡ slice_index bytes (t.place + 5) = sym tf.1.1.1.0 in
     let there : read.parts_at.items ≡ map (part_place bytes (unwrap_or found.tlm 0))
-        (range_with_len 0 (parts_of (profile_at bytes found.siz))) =
+    (range_with_len 0 (parts_of (profile_at bytes found.siz))) =
     has.places ∙ t.places
     ∙ ap (λ s. map (λ i. entry_place t.place s i + index_size s)
     (range_with_len 0 (length m.parts.items))) kind

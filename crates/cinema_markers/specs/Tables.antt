@@ -1,7 +1,7 @@
 -- What is judged of a main header that may be any bytes, segment by segment, and in which order (ISO/IEC
 -- 15444-1, A.2, A.5 to A.7). A row is one line: whether it applies, and what is refused then. The first
 -- row that applies tells the fault. Places count from the first byte of the whole.
-use Rattle.std.specs.Prelude.{ℕ, ◌+◌, ◌*◌, ◌/◌, ◌%◌, Bool, true, false, not, ◌&&◌, ◌||◌, ◌==◌, nat_lt, List, [], ◌∷◌, ◌++◌, length, map, slice_index, Option, Some, None, is_none, is_some, if◌then◌else◌}
+use Rattle.std.specs.Prelude.{ℕ, ◌+◌, ◌*◌, ◌/◌, ◌%◌, Bool, not, ◌&&◌, ◌||◌, ◌==◌, nat_lt, List, [], ◌∷◌, ◌++◌, length, map, slice_index, Option, Some, None, is_none, is_some, if◌then◌else◌}
 use Rattle.std.specs.Option.{unwrap_or}
 use Rattle.std.specs.List.{range_with_len}
 use Rattle.cine_nums.specs.declared.profile.Profile.{Profile}
@@ -88,7 +88,7 @@ cod_order_rows profile bytes at =
     ∷ row (nat_lt 1 (word_at bytes (at + 6))) (OutsideProfile (at + 6) 10)
     ∷ row (nat_lt 1 (slice_index bytes (at + 8))) (BadCod (at + 8))
     ∷ row (nat_lt levels (least_levels_of profile) || nat_lt (levels_of profile) levels)
-        (BadCod (at + 9))
+    (BadCod (at + 9))
     ∷ []
 
 -- width, height and style of code blocks; the wavelet; Lcod against the levels

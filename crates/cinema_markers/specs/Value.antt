@@ -1,11 +1,12 @@
 -- What a main header says, read at the places of its segments (ISO/IEC 15444-1, A.5 to A.7).
-use Rattle.std.specs.Prelude.{ℕ, ◌+◌, ◌*◌, ◌/◌, ◌%◌, List, map, slice_index}
+use Rattle.std.specs.Prelude.{ℕ, ◌≡◌, ◌+◌, ◌*◌, ◌/◌, ◌%◌, List, map, slice_index}
 use Rattle.std.specs.Option.{unwrap_or}
 use Rattle.std.specs.List.{range_with_len}
 use Rattle.cine_nums.specs.Bytes.{word_at, long_at}
 use Rattle.cine_nums.specs.Profile.{parts_of}
 use Rattle.dz_quantiser.specs.declared.band.BandStep.{BandStep}
 use Rattle.dz_quantiser.specs.declared.steps.StepSizes.{StepSizes}
+use Rattle.cinema_markers.specs.Reading.{EndsAt}
 use Rattle.cinema_markers.specs.Tables.{profile_at, entry_place, index_size, length_at}
 use Rattle.cinema_markers.specs.declared.found.Found.{Found}
 use Rattle.cinema_markers.specs.declared.header.MainRead.{MainRead}
@@ -56,3 +57,9 @@ main_at bytes found at =
       parts_at = record { items = map (part_place bytes tlm) parts };
       bytes = at;
     }
+
+-- a main header ends, and this is what is read at the places of its segments
+pub record IsRead (bytes : List ℕ) (read : MainRead) : Type 0 where
+  pub found : Found
+  pub ends : EndsAt bytes found read.bytes
+  pub is : read ≡ main_at bytes found read.bytes

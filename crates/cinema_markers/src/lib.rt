@@ -32,8 +32,10 @@ mod siz;
 #[cfg(test)]
 mod tests;
 mod tlm;
+mod value;
 mod write;
 
-pub use header::MainHeader;
+pub use header::{MainHeader, MainRead};
+pub use read::read_main;
 pub use refusal::MarkerRefusal;
 pub use write::main_bytes;
