@@ -82,6 +82,7 @@ fn goes_on_where_it_was_left(rt: HostRuntime) {
     let mark = encoder.mark();
     let contexts = encoder.contexts();
     put_all(&mut encoder, &[(18, false); 40]);
+    assert!(rt; mark.count as usize <= buffer.len());
     let mut next = Encoder::resume(&mut buffer, &mark, &contexts);
     let code = ending(&next.mark());
     put_all(&mut next, &[(18, true); 40]);
