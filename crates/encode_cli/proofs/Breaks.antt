@@ -1,65 +1,112 @@
--- Where a frame is broken off, from what its steps left.
-use Rattle.std.proofs.Common.{◌≡◌, ℕ, ◌≤◌, List, [], ◌∷◌, ◌++◌, Option, Some, None, Ok, Err, length, take, option_map, refl, sym, ◌∙◌, ap, subst, inl, inr}
+-- Where the visit of a frame broke off, from what its steps left.
+use Rattle.std.proofs.Common.{◌≡◌, ℕ, ◌≤◌, List, [], ◌∷◌, ◌++◌, Option, Some, None, option_map}
+use Rattle.std.proofs.Common.{refl, sym, ◌∙◌, ap, subst, inl, inr}
 use Rattle.std.proofs.lemmas.List.{append-nil}
 use Rattle.std.specs.Option.{ForSome}
 use Rattle.cine_ports.specs.Source.{File}
 use Rattle.cine_ports.specs.Outputs.{Kept}
 use Rattle.cine_ports.specs.WholePieces.{SaidProperPrefix}
-use Rattle.pnm_frames.specs.Picture.{Picture}
-use Rattle.pnm_frames.specs.Fault.{Fault}
-use Rattle.frame_encoder.specs.Encoded.{empty_codestream_of}
-use Rattle.encode_cli.specs.Put.{kept_and, kept_and_part, HasPartOf}
-use Rattle.encode_cli.specs.Visit.{Visit, output_name, outputs_of, line_of, Before, Writing, Saying, kept_at, said_at, BrokenOff}
+use Rattle.pnm_frames.specs.declared.fault.FrameFault.{FrameFault}
+use Rattle.encode_cli.specs.Output.{kept_and, OutputBrokeOff}
+use Rattle.encode_cli.specs.Visit.{Visit, one_or_none, outputs_of, Before, Writing, Saying, kept_at}
+use Rattle.encode_cli.specs.Visit.{said_at}
+use Rattle.encode_cli.specs.Progress.{VisitBrokeOff}
+use Rattle.encode_cli.specs.Right.{refused}
 
 -- outputs without an unfinished file are their finished ones
-rest_same : (k : Option Kept) → ForSome k (λ kept. kept.unfinished ≡ None) → k ≡ option_map (λ kept. kept_at Before kept.finished) k
-rest_same None h = refl
-rest_same (Some kept) h = ap (λ (u : Option File). Some (record { finished = kept.finished; unfinished = u })) (h kept refl)
+pub rest_same : (k : Option Kept) → ForSome k (λ kept. kept.unfinished ≡ None) →
+    k ≡ option_map (λ kept. kept_at Before kept.finished) k
+rest_same None rest = refl
+rest_same (Some kept) rest = ap
+    (λ (u : Option File). Some (record { finished = kept.finished; unfinished = u }))
+    (rest kept refl)
 
--- a report of which nothing more was said
-said_same : (s : Option (List ℕ)) → s ≡ option_map (said_at Before) s
+-- a report of which nothing more is written
+pub said_same : (s : Option (List ℕ)) → s ≡ option_map (said_at Before) s
 said_same None = refl
 said_same (Some bytes) = refl
 
+-- broken off before anything of it was written
+pub nothing_done : (IsRight : Visit → Type 0) (k : Option Kept) (s : Option (List ℕ)) →
+    ForSome k (λ kept. kept.unfinished ≡ None) → VisitBrokeOff IsRight k k s s
+nothing_done IsRight k s rest =
+    record {
+      point = Before;
+      is_point = tt;
+      of_visit = tt;
+      kept = rest_same k rest;
+      said =
+          said_same s;
+    }
+
 -- broken off while its output was written
-pub put_broken : (name : List ℕ) (p : Picture) (output bytes : List ℕ) (k0 k1 : Option Kept) (said : Option (List ℕ)) → output ≡ output_name name → bytes ≡ empty_codestream_of p → ForSome k0 (λ kept. kept.unfinished ≡ None) → HasPartOf output bytes k0 k1 → BrokenOff (record { name = name; found = Ok p }) k0 k1 said said
-put_broken name p output bytes k0 k1 said named made rest (inl same) = record {
+pub output_broken : (IsRight : Visit → Type 0) (visit : Visit) (name bytes : List ℕ)
+    (k0 k1 : Option Kept) (said : Option (List ℕ)) → IsRight visit →
+    visit.output ≡ Some (record { name = name; bytes = bytes }) →
+    ForSome k0 (λ kept. kept.unfinished ≡ None) → OutputBrokeOff name bytes k0 k1 →
+    VisitBrokeOff IsRight k0 k1 said said
+output_broken IsRight visit name bytes k0 k1 said right has rest (inl none) = record {
   point = Before;
   is_point = tt;
   of_visit = tt;
-  kept = same ∙ rest_same k0 rest;
+  kept = none ∙ rest_same k0 rest;
   said = said_same said;
 }
-put_broken name p output bytes k0 k1 said named made rest (inr part) =
-    let visit : Visit = record { name = name; found = Ok p } in
-    let Within : List ℕ → Type 0 = λ bs. part.0 ≤ length bs in
-    let Wrote : List ℕ → List ℕ → Type 0 = λ o bs. k1 ≡ option_map (kept_and_part o (take part.0 bs)) k0 in
+output_broken IsRight visit name bytes k0 k1 said right has rest (inr part) = record {
+  point = Writing visit (record { name = name; bytes = bytes }) part.0;
+  is_point = (has, part.1);
+  of_visit = right;
+  kept = part.2;
+  said = said_same said;
+}
+
+-- an output that was finished is that of the visit
+pub output_made : (visit : Visit) (name bytes : List ℕ) (k0 k1 : Option Kept) →
+    visit.output ≡ Some (record { name = name; bytes = bytes }) →
+    k1 ≡ option_map (kept_and (record { name = name; bytes = bytes } ∷ [])) k0 →
+    k1 ≡ option_map (kept_and (outputs_of visit)) k0
+output_made visit name bytes k0 k1 has h =
+    subst (λ (o : Option File). k1 ≡ option_map (kept_and (one_or_none o)) k0) (sym has) h
+
+-- broken off while its line was reported
+pub line_broken : (IsRight : Visit → Type 0) (visit : Visit) (line : List ℕ) (k0 k1 : Option Kept)
+    (s0 s1 : Option (List ℕ)) → IsRight visit → line ≡ visit.line →
+    k1 ≡ option_map (kept_and (outputs_of visit)) k0 → SaidProperPrefix line s0 s1 →
+    VisitBrokeOff IsRight k0 k1 s0 s1
+line_broken IsRight visit line k0 k1 s0 s1 right same put some =
+    let here = subst (λ (l : List ℕ). SaidProperPrefix l s0 s1) same some in
     record {
-      point = Writing visit part.0;
-      is_point = (refl, subst Within made part.1);
-      of_visit = refl;
-      kept = subst (Wrote (output_name name)) made (subst (λ (o : List ℕ). Wrote o bytes) named part.2);
-      said = said_same said;
+      point = Saying visit here.0;
+      is_point = here.1;
+      of_visit = right;
+      kept = put;
+      said =
+          here.2;
     }
 
--- an output that was finished, by its name and bytes
-pub put_made : (name : List ℕ) (p : Picture) (output bytes : List ℕ) (k0 k1 : Option Kept) → output ≡ output_name name → bytes ≡ empty_codestream_of p → k1 ≡ option_map (kept_and (record { name = output; bytes = bytes } ∷ [])) k0 → k1 ≡ option_map (kept_and (outputs_of (record { name = name; found = Ok p }))) k0
-put_made name p output bytes k0 k1 named made h =
-    let Made : List ℕ → List ℕ → Type 0 = λ o bs. k1 ≡ option_map (kept_and (record { name = o; bytes = bs } ∷ [])) k0 in
-    subst (Made (output_name name)) made (subst (λ (o : List ℕ). Made o bytes) named h)
-
--- broken off while its line was said
-pub say_broken : (visit : Visit) (line : List ℕ) (k0 k1 : Option Kept) (s0 s1 : Option (List ℕ)) → line ≡ line_of visit → k1 ≡ option_map (kept_and (outputs_of visit)) k0 → SaidProperPrefix line s0 s1 → BrokenOff visit k0 k1 s0 s1
-say_broken visit line k0 k1 s0 s1 same put some =
-    let here = subst (λ (l : List ℕ). SaidProperPrefix l s0 s1) same some in
-    record { point = Saying visit here.0; is_point = here.1; of_visit = refl; kept = put; said = here.2 }
-
 -- a refused frame adds no output
-none_added : (k : Option Kept) → option_map (kept_and []) k ≡ option_map (kept_and []) (option_map (kept_and []) k)
-none_added None = refl
-none_added (Some kept) = ap (λ (files : List File). Some (record { finished = files; unfinished = None })) (sym (append-nil (kept.finished ++ [])))
+none_twice : (k : Option Kept) →
+    option_map (kept_and []) k ≡ option_map (kept_and []) (option_map (kept_and []) k)
+none_twice None = refl
+none_twice (Some kept) = ap (λ (files : List File). Some
+    (record { finished = files; unfinished = None })) (sym (append-nil (kept.finished ++ [])))
 
--- broken off while the line of a refused frame was said
-pub refuse_broken : (name : List ℕ) (fault : Fault) (line : List ℕ) (k : Option Kept) (s0 s1 : Option (List ℕ)) → line ≡ line_of (record { name = name; found = Err fault }) → SaidProperPrefix line s0 s1 → BrokenOff (record { name = name; found = Err fault }) (option_map (kept_and []) k) (option_map (kept_and []) k) s0 s1
-refuse_broken name fault line k s0 s1 same some =
-    say_broken (record { name = name; found = Err fault }) line (option_map (kept_and []) k) (option_map (kept_and []) k) s0 s1 same (none_added k) some
+-- broken off while the line of a refused frame was reported
+pub refusal_broken : (name : List ℕ) (fault : FrameFault) (line : List ℕ) (k : Option Kept)
+    (s0 s1 : Option (List ℕ)) → line ≡ (refused name fault).line → SaidProperPrefix line s0 s1 →
+    VisitBrokeOff (λ visit. visit ≡ refused name fault) (option_map (kept_and []) k)
+    (option_map (kept_and []) k) s0 s1
+refusal_broken name fault line k s0 s1 same some =
+    line_broken (λ visit. visit ≡ refused name fault) (refused name fault) line
+    (option_map (kept_and []) k) (option_map (kept_and []) k) s0 s1 refl same
+    (none_twice k) some
+
+-- outputs at rest are the same with none added
+pub none_added : (k : Option Kept) → ForSome k (λ kept. kept.unfinished ≡ None) →
+    option_map (kept_and []) k ≡ k
+none_added None h = refl
+none_added (Some kept) h =
+    ap (λ (files : List File). Some (record { finished = files; unfinished = None }))
+    (append-nil kept.finished)
+    ∙ ap (λ (u : Option File). Some (record { finished = kept.finished; unfinished = u }))
+    (sym (h kept refl))

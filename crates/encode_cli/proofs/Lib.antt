@@ -1,8 +1,8 @@
 pub mod Breaks
-pub mod Coming
-pub mod Faults
-pub mod FiveWords
+pub mod FiveArguments
 pub mod FreshNames
+pub mod Known
 pub mod Limits
-pub mod Puts
-pub mod Told
+pub mod Outputs
+pub mod Progress
+pub mod Stops

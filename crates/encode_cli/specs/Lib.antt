@@ -1,7 +1,11 @@
-pub mod Line
-pub mod Progress
-pub mod Put
+-- The promises of `run`: Run, in the words of Right (which visits are right), Visit (what a visit
+-- does and where it can break off), ReportLine (the lines) and Arguments (the commands).
 pub mod Run
-pub mod Stop
+pub mod Right
 pub mod Visit
-pub mod Words
+pub mod ReportLine
+pub mod Arguments
+-- The inside of the crate: what its steps leave.
+pub mod Progress
+pub mod Output
+pub mod Stop

@@ -1,67 +1,112 @@
--- How far a run has come, and what it leaves in the end.
-use Rattle.std.specs.Prelude.{ℕ, ◌≡◌, ◌≤◌, Bool, List, Option, Some, None, IfSome, length, map, take, slice_get, option_map}
+-- How far a run has come. Q says which visits are right for a listed name, R which are for a known
+-- file.
+use Rattle.std.specs.Prelude.{ℕ, ◌≡◌, ◌≤◌, Bool, List, [], ◌∷◌, Option, Some, None, IfSome, length}
+use Rattle.std.specs.Prelude.{take, slice_get, option_map}
 use Rattle.std.specs.List.{flat_map, list_any}
-use Rattle.cine_ports.specs.Source.{File}
+use Rattle.cine_ports.specs.Source.{File, Source}
 use Rattle.cine_ports.specs.Outputs.{Kept}
 use Rattle.cine_ports.specs.WholePieces.{said_with}
-use Rattle.encode_cli.specs.Put.{kept_and}
-use Rattle.encode_cli.specs.Visit.{Visit, visit_of, outputs_of, line_of, is_refused, Point, Before, Writing, Saying, IsPoint, kept_at, said_at}
+use Rattle.encode_cli.specs.Output.{kept_and}
+use Rattle.encode_cli.specs.Visit.{Visit, outputs_of, Point, Before, Writing, Saying, IsPoint}
+use Rattle.encode_cli.specs.Visit.{kept_at, said_at}
 
--- the outputs after these frames, which are all finished
+-- the outputs after these visits, which are all finished
 abbrev pub kept_after : List Visit → Kept
 kept_after visits = record { finished = flat_map outputs_of visits; unfinished = None }
 
--- the report after these frames
+-- the report after these visits
 abbrev pub said_after : List Visit → List ℕ
-said_after visits = flat_map line_of visits
+said_after visits = flat_map (λ visit. visit.line) visits
 
--- what the files of a source come to
-abbrev pub visits_of : List File → List Visit
-visits_of files = map visit_of files
+-- each visit is right for the item at its place, of as many
+abbrev pub AreRight : {A : Type 0} → (A → Visit → Type 0) → List A → List Visit → Type 0
+AreRight R [] [] = Unit {0}
+AreRight R (x ∷ xs) (visit ∷ visits) = R x visit × AreRight R xs visits
+AreRight R [] (_ ∷ _) = ⊥
+AreRight R (_ ∷ _) [] = ⊥
 
--- The frame at place i of the source comes to this: the name is the listed one, and where the files are told
--- it is what that file comes to.
-pub record IsVisit (names : List (List ℕ)) (files : Option (List File)) (i : ℕ) (visit : Visit) : Type 0 where
-  pub named : slice_get names i ≡ Some visit.name
-  pub told : IfSome files (λ files. slice_get (visits_of files) i ≡ Some visit)
+-- the visit is right for the item at place i
+abbrev pub IsRightAt : {A : Type 0} → (A → Visit → Type 0) → List A → ℕ → Visit → Type 0
+IsRightAt {A} R xs i visit = (x : A) × (slice_get xs i ≡ Some x) × R x visit
 
--- the frame at a point, which stands at place n of those of the source
-abbrev pub IsPointAt : List Visit → ℕ → Point → Type 0
-IsPointAt visits n Before = n ≤ length visits
-IsPointAt visits n (Writing visit k) = slice_get visits n ≡ Some visit
-IsPointAt visits n (Saying visit k) = slice_get visits n ≡ Some visit
+-- the point is one of a visit that is right for the item at place n
+abbrev pub IsPointAt : {A : Type 0} → (A → Visit → Type 0) → List A → ℕ → Point → Type 0
+IsPointAt R xs n Before = n ≤ length xs
+IsPointAt R xs n (Writing visit file k) = IsRightAt R xs n visit
+IsPointAt R xs n (Saying visit k) = IsRightAt R xs n visit
 
--- The visit of the frame at place i was broken off at some point.
-pub record BreaksOffAt (files : Option (List File)) (i : ℕ) (kept_before kept_now : Option Kept) (said_before said_now : Option (List ℕ)) : Type 0 where
+-- The visit is right for the frame at place i of a source: for its name, and where the files are
+-- known for its file.
+pub record IsVisitAt (Q : List ℕ → Visit → Type 0) (R : File → Visit → Type 0) (source : Source)
+    (i : ℕ) (visit : Visit) : Type 0 where
+  pub named : IsRightAt Q source.names i visit
+  pub known : IfSome source.files (λ files. IsRightAt R files i visit)
+
+-- The visits are right for the first n frames.
+pub record AreVisitsOf (Q : List ℕ → Visit → Type 0) (R : File → Visit → Type 0) (source : Source)
+    (n : ℕ) (visits : List Visit) : Type 0 where
+  pub named : AreRight Q (take n source.names) visits
+  pub known : IfSome source.files (λ files. AreRight R (take n files) visits)
+
+-- The point is one of the frame at place n.
+pub record IsPointOf (Q : List ℕ → Visit → Type 0) (R : File → Visit → Type 0) (source : Source)
+    (n : ℕ) (point : Point) : Type 0 where
+  pub named : IsPointAt Q source.names n point
+  pub known : IfSome source.files (λ files. IsPointAt R files n point)
+
+-- the point is one of such a visit
+abbrev pub IsOneOf : (Visit → Type 0) → Point → Type 0
+IsOneOf IsRight Before = Unit {0}
+IsOneOf IsRight (Writing visit file n) = IsRight visit
+IsOneOf IsRight (Saying visit n) = IsRight visit
+
+-- The visit of one frame, for which IsRight says which visits are right, broke off.
+pub record VisitBrokeOff (IsRight : Visit → Type 0) (kept_before kept_now : Option Kept)
+    (said_before said_now : Option (List ℕ)) : Type 0 where
   pub point : Point
   pub is_point : IsPoint point
-  pub told : IfSome files (λ files. IsPointAt (visits_of files) i point)
+  pub of_visit : IsOneOf IsRight point
   pub kept : kept_now ≡ option_map (λ kept. kept_at point kept.finished) kept_before
   pub said : said_now ≡ option_map (said_at point) said_before
 
--- The frame at place i was visited: what it comes to is written and said.
-pub record HasVisited (names : List (List ℕ)) (files : Option (List File)) (i : ℕ) (kept_before kept_now : Option Kept) (said_before said_now : Option (List ℕ)) (is_refused_one : Bool) : Type 0 where
-  pub visit : Visit
-  pub is_visit : IsVisit names files i visit
-  pub kept : kept_now ≡ option_map (kept_and (outputs_of visit)) kept_before
-  pub said : said_now ≡ option_map (said_with (line_of visit)) said_before
-  pub refused : is_refused_one ≡ is_refused visit
-
--- A run has come as far as place i: frames before it are written and said, and none else.
-pub record HasCome (names : List (List ℕ)) (files : Option (List File)) (i : ℕ) (kept_before kept_now : Option Kept) (said_before said_now : Option (List ℕ)) (some_refused : Bool) : Type 0 where
-  pub visits : List Visit
-  pub count : length visits ≡ i
-  pub named : map (λ visit. visit.name) visits ≡ take i names
-  pub told : IfSome files (λ files. visits ≡ take i (visits_of files))
-  pub kept : kept_now ≡ option_map (λ kept. kept_after visits) kept_before
-  pub said : said_now ≡ option_map (λ said. said_after visits) said_before
-  pub refused : some_refused ≡ list_any is_refused visits
-
--- A run was broken off at place n: the frames before it are written and said, and it came to a point with the next.
-pub record IsBroken (files : Option (List File)) (n : ℕ) (kept_before kept_now : Option Kept) (said_before said_now : Option (List ℕ)) : Type 0 where
-  pub visits : List Visit
+-- The visit of the frame at place i of a source broke off.
+pub record FrameBrokeOff (Q : List ℕ → Visit → Type 0) (R : File → Visit → Type 0) (source : Source)
+    (i : ℕ) (kept_before kept_now : Option Kept)
+    (said_before said_now : Option (List ℕ)) : Type 0 where
   pub point : Point
   pub is_point : IsPoint point
-  pub told : IfSome files (λ files. (visits ≡ take n (visits_of files)) × IsPointAt (visits_of files) n point)
+  pub place : IsPointOf Q R source i point
+  pub kept : kept_now ≡ option_map (λ kept. kept_at point kept.finished) kept_before
+  pub said : said_now ≡ option_map (said_at point) said_before
+
+-- The frame at place i of a source was visited: what its visit has is written and reported.
+pub record FrameVisited (Q : List ℕ → Visit → Type 0) (R : File → Visit → Type 0) (source : Source)
+    (i : ℕ) (kept_before kept_now : Option Kept) (said_before said_now : Option (List ℕ))
+    (is_refused : Bool) : Type 0 where
+  pub visit : Visit
+  pub is_visit : IsVisitAt Q R source i visit
+  pub kept : kept_now ≡ option_map (kept_and (outputs_of visit)) kept_before
+  pub said : said_now ≡ option_map (said_with visit.line) said_before
+  pub refused : is_refused ≡ visit.refused
+
+-- The first n frames of a source were visited, and no other.
+pub record FramesVisited (Q : List ℕ → Visit → Type 0) (R : File → Visit → Type 0) (source : Source)
+    (n : ℕ) (kept_before kept_now : Option Kept) (said_before said_now : Option (List ℕ))
+    (some_refused : Bool) : Type 0 where
+  pub visits : List Visit
+  pub right : AreVisitsOf Q R source n visits
+  pub kept : kept_now ≡ option_map (λ kept. kept_after visits) kept_before
+  pub said : said_now ≡ option_map (λ said. said_after visits) said_before
+  pub refused : some_refused ≡ list_any (λ visit. visit.refused) visits
+
+-- The visits of a source's frames broke off at the frame at place n: those before it were visited.
+pub record FramesBrokeOff (Q : List ℕ → Visit → Type 0) (R : File → Visit → Type 0)
+    (source : Source) (n : ℕ) (kept_before kept_now : Option Kept)
+    (said_before said_now : Option (List ℕ)) : Type 0 where
+  pub visits : List Visit
+  pub right : AreVisitsOf Q R source n visits
+  pub point : Point
+  pub is_point : IsPoint point
+  pub place : IsPointOf Q R source n point
   pub kept : kept_now ≡ option_map (λ kept. kept_at point (flat_map outputs_of visits)) kept_before
   pub said : said_now ≡ option_map (λ said. said_at point (said_after visits)) said_before

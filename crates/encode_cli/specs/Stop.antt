@@ -1,18 +1,19 @@
--- What ended a run before its last frame.
+-- What ends a run before its last frame: a failed call of one of its three objects, or out of
+-- memory.
 use Rattle.std.specs.Prelude.{ℕ, Bool, true, false, Result, Ok, Err}
 use Rattle.cine_ports.specs.declared.fault.PortFault.{PortFault}
 use Rattle.cine_ports.specs.declared.fault.PortFault.TheVariants as port_faults
 use Rattle.encode_cli.specs.declared.stop.Stop.{Stop}
 use Rattle.encode_cli.specs.declared.stop.Stop.TheVariants as stops
 
--- the status of a run that was ended so
+-- the status of a run that is ended so
 abbrev pub status_of : Stop → ℕ
 status_of stops.Source = 3
 status_of stops.Outputs = 4
 status_of stops.Report = 5
 status_of stops.Memory = 6
 
--- what a refused call of each object ends a run with
+-- what an error of each object ends a run with
 abbrev pub source_stop : PortFault → Stop
 source_stop port_faults.Failed = stops.Source
 source_stop port_faults.Memory = stops.Memory
@@ -25,26 +26,24 @@ abbrev pub report_stop : PortFault → Stop
 report_stop port_faults.Failed = stops.Report
 report_stop port_faults.Memory = stops.Memory
 
--- what was stopped by a failed call of the source
-abbrev pub source_failed : {T : Type 0} → Result T Stop → Bool
-source_failed (Ok value) = false
-source_failed (Err stops.Source) = true
-source_failed (Err stops.Outputs) = false
-source_failed (Err stops.Report) = false
-source_failed (Err stops.Memory) = false
+-- whether what is returned is that a call of the source failed, of the outputs, of the report
+abbrev pub is_source_stop : {T : Type 0} → Result T Stop → Bool
+is_source_stop (Ok value) = false
+is_source_stop (Err stops.Source) = true
+is_source_stop (Err stops.Outputs) = false
+is_source_stop (Err stops.Report) = false
+is_source_stop (Err stops.Memory) = false
 
--- what was stopped by a failed call of the outputs
-abbrev pub outputs_failed : {T : Type 0} → Result T Stop → Bool
-outputs_failed (Ok value) = false
-outputs_failed (Err stops.Source) = false
-outputs_failed (Err stops.Outputs) = true
-outputs_failed (Err stops.Report) = false
-outputs_failed (Err stops.Memory) = false
+abbrev pub is_outputs_stop : {T : Type 0} → Result T Stop → Bool
+is_outputs_stop (Ok value) = false
+is_outputs_stop (Err stops.Source) = false
+is_outputs_stop (Err stops.Outputs) = true
+is_outputs_stop (Err stops.Report) = false
+is_outputs_stop (Err stops.Memory) = false
 
--- what was stopped by a failed call of the report
-abbrev pub report_failed : {T : Type 0} → Result T Stop → Bool
-report_failed (Ok value) = false
-report_failed (Err stops.Source) = false
-report_failed (Err stops.Outputs) = false
-report_failed (Err stops.Report) = true
-report_failed (Err stops.Memory) = false
+abbrev pub is_report_stop : {T : Type 0} → Result T Stop → Bool
+is_report_stop (Ok value) = false
+is_report_stop (Err stops.Source) = false
+is_report_stop (Err stops.Outputs) = false
+is_report_stop (Err stops.Report) = true
+is_report_stop (Err stops.Memory) = false

@@ -1,6 +1,6 @@
-//! The program `cinema`: encodes a folder of 12-bit X'Y'Z' frames (ppm(5), magic P6, maxval 4095) into
-//! JPEG 2000 codestreams of the 2K digital cinema profile (ISO/IEC 15444-1), one for each frame, within
-//! the byte limits of the DCI Digital Cinema System Specification.
+//! The program `cinema`: encodes a folder of 12-bit X'Y'Z' frames (ppm(5), magic P6, maxval 4095)
+//! into JPEG 2000 codestreams of the 2K digital cinema profile (ISO/IEC 15444-1), one for each
+//! frame, within the byte limits of the DCI Digital Cinema System Specification.
 //!
 //! `run` promises what is written, what is said and why a run ended; `main` only makes its objects.
 //!
@@ -9,24 +9,24 @@
 //! ```
 #![tactic(auto)]
 
-mod lines;
-mod put;
+mod arguments;
+mod frame;
+mod frames;
+mod output;
+mod report_line;
 mod run;
 mod stop;
 #[cfg(test)]
 mod tests;
-mod visits;
-mod words;
-mod written;
 
 ghost use Rattle.std.specs.Prelude.{◌≡◌, false};
 
+use arguments::{FolderWords, places};
 use cine_ports::{FolderFrames, FolderOutputs, Frames, NullOutputs, StdoutReport, SteadyFrames};
 use run::run;
 use std::alloc::AllocError;
 use std::process::ExitCode;
 use std::{env, fs, io};
-use words::{FolderWords, places};
 
 /// What the status of a run is called on standard error, if it is called anything.
 fn complaint(status: u8) -> Option<&'static str> {
@@ -40,7 +40,7 @@ fn complaint(status: u8) -> Option<&'static str> {
     }
 }
 
-/// The words behind the program's name.
+/// The words after the program's name.
 fn words_of(rt: &HostRuntime) -> io::Result<Vec<String>> {
     let mut words = Vec::new(rt.alloc());
     for word in env::args(rt)?.skip(1) {

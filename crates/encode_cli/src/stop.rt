@@ -6,7 +6,7 @@ ghost use Rattle.encode_cli.specs.Stop.{outputs_stop, report_stop, source_stop, 
 use cine_ports::PortFault;
 use std::alloc::AllocError;
 
-/// What ended a run: a failed call of one of its three objects, or want of memory.
+/// What ended a run: a failed call of one of its three objects, or out of memory.
 #[derive(Clone, Copy, Debug, PartialEq, Eq)]
 pub enum Stop {
     /// A call of the source failed.
@@ -15,7 +15,7 @@ pub enum Stop {
     Outputs,
     /// A call of the report failed.
     Report,
-    /// Memory was wanting.
+    /// There was no memory left.
     Memory,
 }
 
@@ -28,7 +28,7 @@ impl From<AllocError> for Stop {
 }
 
 impl Stop {
-    /// The status of a run that was ended so: 3 to 6.
+    /// The status of a run that is ended so: 3 to 6.
     pub fn status(self) -> u8
         ensures { result ≡ status_of self }
     {
@@ -40,7 +40,7 @@ impl Stop {
         }
     }
 
-    /// What a refused call of the source ends a run with.
+    /// What an error of the source ends a run with.
     pub fn of_source(fault: PortFault) -> Stop
         ensures { result ≡ source_stop fault }
     {
@@ -50,7 +50,7 @@ impl Stop {
         }
     }
 
-    /// What a refused call of the outputs ends a run with.
+    /// What an error of the outputs ends a run with.
     pub fn of_outputs(fault: PortFault) -> Stop
         ensures { result ≡ outputs_stop fault }
     {
@@ -60,7 +60,7 @@ impl Stop {
         }
     }
 
-    /// What a refused call of the report ends a run with.
+    /// What an error of the report ends a run with.
     pub fn of_report(fault: PortFault) -> Stop
         ensures { result ≡ report_stop fault }
     {

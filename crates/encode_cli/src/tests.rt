@@ -1,8 +1,8 @@
 // Whole runs, over objects in memory and over folders.
 ghost use Rattle.std.specs.Prelude.{◌≤◌};
 
+use crate::arguments::places;
 use crate::run::run;
-use crate::words::places;
 use cine_ports::{
     FolderFrames, FolderOutputs, MemoryFrame, MemoryFrames, MemoryOutputs, MemoryReport,
     is_frame_list,
@@ -29,8 +29,8 @@ const BLACK: &[u8] = b"P6\n1 1\n4095\n\x00\x00\x00\x00\x00\x00";
 /// The same with three samples of 2049.
 const NEARLY_GREY: &[u8] = b"P6\n1 1\n4095\n\x08\x01\x08\x01\x08\x01";
 
-/// The codestream of a frame of one pixel. The bytes come from a dump that was made by two programs which share no
-/// code with this one.
+/// The codestream of a frame of one pixel. The bytes come from a dump that was made by two programs
+/// which share no code with this one.
 #[rattlefmt::skip]
 const CODESTREAM: &[u8] = &[
     0xFF, 0x4F,
@@ -55,7 +55,8 @@ const CODESTREAM: &[u8] = &[
 const LINE: &str =
     "ok a 2k 1x1 frame=191/1302083/0 c0=20/1041666/0 c1=20/1041666/0 c2=20/1041666/0 passes=0 empty=0 distortion=0\n";
 
-/// The lines of a grey frame, a frame of 16 bits a sample, a grey frame, and one with a sample too large.
+/// The lines of a grey frame, a frame of 16 bits a sample, a grey frame, and one with a sample too
+/// large.
 const LINES: &str = "\
 ok a 2k 1x1 frame=191/1302083/0 c0=20/1041666/0 c1=20/1041666/0 c2=20/1041666/0 passes=0 empty=0 distortion=0\n\
 refused e 4 WrongMaxval\n\
@@ -68,8 +69,10 @@ ok b 2k 1x1 frame=191/1302083/0 c0=20/1041666/0 c1=20/1041666/0 c2=20/1041666/0 
 ok c 2k 1x1 frame=191/1302083/0 c0=20/1041666/0 c1=20/1041666/0 c2=20/1041666/0 passes=0 empty=68720001025 distortion=68720001025\n\
 ok d 2k 1x1 frame=191/1302083/0 c0=20/1041666/0 c1=20/1041666/0 c2=20/1041666/0 passes=0 empty=16641 distortion=16641\n";
 
+/// A command.
 const COMMAND: &str = "encode src dst --profile 2k";
 
+/// The words of a line.
 fn words(alloc: Global, text: &str) -> Result<Vec<String>, AllocError> {
     let mut words = Vec::new(alloc);
     for word in text.split_whitespace() {
@@ -78,6 +81,7 @@ fn words(alloc: Global, text: &str) -> Result<Vec<String>, AllocError> {
     Ok(words)
 }
 
+/// A file in memory.
 fn file(alloc: Global, name: &str, bytes: &[u8]) -> Result<MemoryFrame, AllocError> {
     Ok(MemoryFrame {
         name: String::from_str(alloc, name)?,
@@ -122,6 +126,7 @@ fn run_over(
     })
 }
 
+/// Whether a file is there, with this name and these bytes.
 fn is_file(file: Option<&MemoryFrame>, name: &str, bytes: &[u8]) -> bool {
     match file {
         Some(file) => file.name() == name && file.bytes() == bytes,
@@ -227,17 +232,45 @@ fn run_between(rt: &HostRuntime, source: &str, target: &str) -> Result<(u8, Memo
     Ok((status, report))
 }
 
+/// The lines of a grey frame of one pixel, of the largest of the profile, and of one of odd sides.
+const SIZES: &str = "\
+ok a 2k 1x1 frame=191/1302083/0 c0=20/1041666/0 c1=20/1041666/0 c2=20/1041666/0 passes=0 empty=0 distortion=0\n\
+ok large 2k 2048x1080 frame=350/1302083/0 c0=73/1041666/0 c1=73/1041666/0 c2=73/1041666/0 passes=0 empty=0 distortion=0\n\
+ok odd 2k 129x257 frame=194/1302083/0 c0=21/1041666/0 c1=21/1041666/0 c2=21/1041666/0 passes=0 empty=0 distortion=0\n";
+
+/// A file of this header and so many grey pixels.
+fn grey(alloc: Global, header: &[u8], pixels: u32) -> Result<Vec<u8>, AllocError> {
+    let mut bytes = Vec::from_slice(alloc, header)?;
+    for _ in 0..pixels {
+        bytes.extend_from_slice(b"\x08\x00\x08\x00\x08\x00".as_slice())?;
+    }
+    Ok(bytes)
+}
+
 #[test]
 fn folder_to_folder(rt: HostRuntime) -> Result<(), Fail> {
     let alloc = rt.alloc();
     let _ = fs::remove_dir_all(&rt, "test-run");
     fs::create_dir_all(&rt, "test-run/src")?;
     fs::write(&rt, "test-run/src/a.ppm", GREY)?;
+    let large = grey(alloc, b"P6\n2048 1080\n4095\n", 2048 * 1080)?;
+    fs::write(&rt, "test-run/src/large.ppm", large.as_slice())?;
+    let odd = grey(alloc, b"P6\n129 257\n4095\n", 129 * 257)?;
+    fs::write(&rt, "test-run/src/odd.ppm", odd.as_slice())?;
     let (status, report) = run_between(&rt, "test-run/src", "test-run/dst")?;
     assert_eq!(rt; status, 0);
+    assert!(rt; report.bytes() == SIZES.as_bytes());
     let written = fs::read(&rt, "test-run/dst/a.j2c")?;
     assert!(rt; written.as_slice() == CODESTREAM);
-    assert!(rt; report.bytes() == LINE.as_bytes());
+    for (path, length, sides) in [
+        ("test-run/dst/large.j2c", 350, [0, 0, 8, 0, 0, 0, 4, 0x38]),
+        ("test-run/dst/odd.j2c", 194, [0, 0, 0, 129, 0, 0, 1, 1]),
+    ] {
+        let written = fs::read(&rt, path)?;
+        assert_eq!(rt; written.len(), length);
+        assert!(rt; written.get(8..16) == Some(sides.as_slice()));
+        assert!(rt; written.ends_with(&[0xFF, 0xD9]));
+    }
     fs::remove_dir_all(&rt, "test-run")?;
     Ok(())
 }

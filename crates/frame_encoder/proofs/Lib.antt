@@ -1,2 +1,3 @@
-pub mod Appends
-pub mod Packets
+pub mod EmptyPackets
+pub mod Lengths
+pub mod Steps

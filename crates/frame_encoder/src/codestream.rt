@@ -1,115 +1,90 @@
-// A codestream in which every packet is empty.
-ghost use Rattle.std.specs.Prelude.{◌≡◌, ◌+◌, ◌*◌, ◌<◌, ◌≤◌, ◌++◌, [], ◌∷◌, length, replicate, OnOk, IfOk};
-ghost use Rattle.cine_nums.specs.declared.profile.Profile.TheVariants.{TwoK};
-ghost use Rattle.band_geometry.specs.Sizes.{precinct_count};
-ghost use Rattle.frame_encoder.specs.Codestream.{tile_part, header_2k, codestream, empty_parts, packet_count, part_length};
+// A codestream in which no code-block is included.
+ghost use Rattle.std.specs.Prelude.{◌≡◌, ◌≤◌, length, take, map, IfOk};
+ghost use Rattle.std.specs.List.{AllByRecursion, flat_map};
+ghost use Rattle.arrayvec.specs.ArrayVec.{array_vec_len};
+ghost use Rattle.cine_nums.specs.Limits.{limit_of};
+ghost use Rattle.cine_nums.specs.Profile.{levels_of, parts_of};
+ghost use Rattle.cine_nums.specs.declared.budget.Budget.TheVariants.{Frame};
 ghost use Rattle.cinema_markers.specs.MainHeader.{main_header_of};
+ghost use Rattle.frame_coefficients.specs.BuiltIn.{built_in_steps};
+ghost use Rattle.frame_encoder.specs.Empty.{empty_codestream, empty_part, empty_part_lengths};
+ghost use Rattle.frame_encoder.specs.Encoded.{IsComponentLength};
+ghost use Rattle.frame_encoder.specs.Spell.{header_for, part_indexes};
 
-use crate::limits::{COMPONENT_LIMIT, FRAME_LIMIT};
+use crate::part::push_empty_part;
 use arrayvec::ArrayVec;
 use band_geometry::Geometry;
-use cine_nums::Profile;
 use cinema_markers::{MainHeader, main_bytes};
 use dz_quantiser::StepSizes;
 use std::alloc::{AllocError, Global};
-use tile_parts::part_head;
+use tile_parts::end_of_codestream;
 
-/// The bytes of a tile-part's head: the SOT segment and the SOD marker.
-const PART_HEAD: u32 = 14;
-
-/// The main header of a codestream of this size in samples, whose three tile-parts have `part` bytes each.
-fn main_header(width: u32, height: u32, part: u32) -> ArrayVec<u8, 192>
-    requires some_width { 1 ≤ width }
-    requires width { width ≤ 2048 }
-    requires some_height { 1 ≤ height }
-    requires height { height ≤ 1080 }
-    ensures { result.items ≡ main_header_of (header_2k width height (part ∷ part ∷ part ∷ [])) }
+/// The main header of a codestream whose tile-parts have these lengths in bytes.
+fn main_header(geometry: &Geometry, part_lengths: ArrayVec<u32, 6>) -> ArrayVec<u8, 192>
+    requires levels { geometry.now.levels ≡ levels_of geometry.now.profile }
+    requires parts { array_vec_len part_lengths ≡ parts_of geometry.now.profile }
+    ensures { result.items ≡ main_header_of (header_for geometry.now
+        (built_in_steps geometry.now.profile) part_lengths.items) }
 {
-    let mut parts = ArrayVec::new();
-    parts.push(part);
-    parts.push(part);
-    parts.push(part);
     main_bytes(&MainHeader {
-        profile: Profile::TwoK,
-        width,
-        height,
-        levels: 5,
+        profile: geometry.profile,
+        width: geometry.width,
+        height: geometry.height,
+        levels: geometry.levels,
         flag: 1,
-        steps: StepSizes::built_in(Profile::TwoK),
-        parts,
+        steps: StepSizes::built_in(geometry.profile),
+        parts: part_lengths,
     })
 }
 
-/// Appends a tile-part, the one at place `index` of three, with so many empty packets.
-fn push_empty_part(out: &mut Vec<u8>, index: u8, packets: u32) -> Result<(), AllocError>
-    requires { packets ≤ 240 }
-    ensures { OnOk result (out.new.items ≡ out.old.items ++ tile_part index 3 (replicate packets 0)) }
+/// The tile-parts of a codestream, one after the other, and the length of each in bytes.
+#[derive(Debug, Drop)]
+struct EmptyParts {
+    bytes: Vec<u8>,
+    lengths: ArrayVec<u32, 6>,
+}
+
+/// The tile-parts.
+fn empty_parts(alloc: Global, geometry: &Geometry) -> Result<EmptyParts, AllocError>
+    ensures bytes { IfOk result (λ parts.
+        parts.bytes.items ≡ flat_map (empty_part geometry.now) (part_indexes geometry.now)) }
+    ensures lengths { IfOk result (λ parts. parts.lengths.items ≡ empty_part_lengths geometry.now) }
 {
-    out.extend_from_slice(&part_head(PART_HEAD + packets, index, 3))?;
-    for _packet in 0..packets {
-        out.push(0)?;
+    let mut bytes = Vec::new(alloc);
+    let mut lengths = ArrayVec::new();
+    for index in 0..geometry.profile.parts() {
+        lengths.push(push_empty_part(alloc, &mut bytes, geometry, index)?);
     }
-    Ok(())
+    Ok(EmptyParts { bytes, lengths })
 }
 
-/// How many packets resolution `res` of a component has: one for each of its precincts.
-fn packets_at(geometry: &Geometry, res: u8) -> u32
-    requires profile { geometry.now.profile ≡ TwoK }
-    requires levels { geometry.now.levels ≡ 5 }
-    requires res { res < 6 }
-    ensures few { result ≤ 40 }
-    ensures count { result ≡ precinct_count 5 geometry.now.width res * precinct_count 5 geometry.now.height res }
-{
-    let (across, down) = geometry.precincts(res);
-    across * down
-}
-
-/// How many packets a component of a 2K frame has.
-#[tactic(auto, unfolding(crate::specs::Codestream::packet_count))]
-fn packet_count(geometry: &Geometry) -> u32
-    requires profile { geometry.now.profile ≡ TwoK }
-    requires levels { geometry.now.levels ≡ 5 }
-    ensures few { result ≤ 240 }
-    ensures count { result ≡ packet_count geometry.now.width geometry.now.height }
-{
-    packets_at(geometry, 0)
-        + packets_at(geometry, 1)
-        + packets_at(geometry, 2)
-        + packets_at(geometry, 3)
-        + packets_at(geometry, 4)
-        + packets_at(geometry, 5)
-}
-
-/// A codestream, and how many bytes each of its tile-parts has.
+/// A codestream, and the length of each of its tile-parts in bytes.
 #[derive(Debug, Drop)]
 pub struct EmptyCodestream {
     pub bytes: Vec<u8>,
-    pub part: u32,
+    pub part_lengths: Vec<u32>,
 }
 
-/// The codestream of a 2K frame of this size in samples, all of whose packets are empty. It is within the
-/// byte limits.
-pub fn empty_codestream(
-    alloc: Global,
-    width: u32,
-    height: u32,
-) -> Result<EmptyCodestream, AllocError>
-    requires some_width { 1 ≤ width }
-    requires width { width ≤ 2048 }
-    requires some_height { 1 ≤ height }
-    requires height { height ≤ 1080 }
-    ensures bytes { IfOk result (λ made.
-        made.bytes.items ≡ codestream width height (empty_parts (packet_count width height))) }
-    ensures part { IfOk result (λ made. made.part ≡ part_length (replicate (packet_count width height) 0)) }
-    ensures frame_limit { IfOk result (λ made. length made.bytes.items ≤ FRAME_LIMIT) }
-    ensures component_limit { IfOk result (λ made. made.part ≤ COMPONENT_LIMIT) }
+/// The codestream of a frame with the levels of its profile, all of whose packets are empty. It is
+/// within the byte limits.
+pub fn empty_codestream(alloc: Global, geometry: &Geometry) -> Result<EmptyCodestream, AllocError>
+    requires { geometry.now.levels ≡ levels_of geometry.now.profile }
+    ensures bytes { IfOk result (λ made. made.bytes.items ≡ empty_codestream geometry.now) }
+    ensures lengths { IfOk result (λ made. made.part_lengths.items
+        ≡ empty_part_lengths geometry.now) }
+    ensures frame_limit { IfOk result (λ made.
+        length made.bytes.items ≤ limit_of geometry.now.profile Frame) }
+    ensures component_limits { IfOk result (λ made.
+        AllByRecursion (IsComponentLength geometry.now.profile) (take 3 made.part_lengths.items)) }
 {
-    let packets = packet_count(&Geometry::new(Profile::TwoK, 5, width, height));
-    let part = PART_HEAD + packets;
-    let mut out = Vec::from_slice(alloc, main_header(width, height, part).as_slice())?;
-    push_empty_part(&mut out, 0, packets)?;
-    push_empty_part(&mut out, 1, packets)?;
-    push_empty_part(&mut out, 2, packets)?;
-    out.extend_from_slice(&[0xFF, 0xD9])?;
-    Ok(EmptyCodestream { bytes: out, part })
+    let parts = empty_parts(alloc, geometry)?;
+    let part_lengths = Vec::from_slice(alloc, parts.lengths.as_slice())?;
+    let header = main_header(geometry, parts.lengths);
+    let mut bytes = Vec::from_slice(alloc, header.as_slice())?;
+    bytes.extend_from_slice(parts.bytes.as_slice())?;
+    bytes.extend_from_slice(&end_of_codestream())?;
+    Ok(EmptyCodestream {
+        bytes,
+        part_lengths,
+    })
 }

@@ -1,5 +1,7 @@
--- What is wrong with a file is told of it.
-use Rattle.std.proofs.Common.{◌≡◌, ℕ, zero, suc, ◌+◌, ◌*◌, ◌-◌, ◌<◌, ◌≤◌, true, false, ◌&&◌, ◌⊎◌, List, [], ◌∷◌, ◌++◌, length, Some, Result, Ok, Err, refl, sym, ap, ◌∙◌, inl, inr, append_assoc, arith, zero-add, length-append}
+-- Reading gives what is wrong with a file.
+use Rattle.std.proofs.Common.{◌≡◌, ℕ, zero, suc, ◌+◌, ◌*◌, ◌-◌, ◌<◌, ◌≤◌, true, false, ◌&&◌, ◌⊎◌}
+use Rattle.std.proofs.Common.{List, [], ◌∷◌, ◌++◌, length, Some, Result, Ok, Err, refl, sym, ap}
+use Rattle.std.proofs.Common.{◌∙◌, inl, inr, append_assoc, arith, zero-add, length-append}
 use Rattle.std.specs.Prelude.{All, nat_lt, nat_le}
 use Rattle.std.specs.Char.{is_ascii_digit}
 use Rattle.std.specs.List.{flat_map}
@@ -7,35 +9,55 @@ use Rattle.std.proofs.lemmas.Bool.{lt-ltb, le-ltb, le-leb, lt-leb, ne_eqb}
 use Rattle.std.proofs.lemmas.Bool.Decides.{leb_tells, eqb_tells}
 use Rattle.std.proofs.lemmas.List.{append-nil}
 use Rattle.pnm_frames.specs.declared.limits.SizeLimits.{SizeLimits}
-use Rattle.pnm_frames.specs.Fault.{Fault, NotPpm, BadHeader, HeaderTooLong, WrongMaxval, WidthOutOfRange, HeightOutOfRange, SampleTooLarge, Truncated, TrailingBytes, ◌>>=◌}
+use Rattle.pnm_frames.specs.declared.fault.FrameFault.{FrameFault}
+use Rattle.pnm_frames.specs.declared.fault.FrameFault.TheVariants.{NotPpm, BadHeader, HeaderTooLong}
+use Rattle.pnm_frames.specs.declared.fault.FrameFault.TheVariants.{WrongMaxval, WidthOutOfRange}
+use Rattle.pnm_frames.specs.declared.fault.FrameFault.TheVariants.{HeightOutOfRange, SampleTooLarge}
+use Rattle.pnm_frames.specs.declared.fault.FrameFault.TheVariants.{Truncated, TrailingBytes}
+use Rattle.pnm_frames.specs.Fault.{◌>>=◌}
 use Rattle.pnm_frames.specs.Grammar.{is_white, value_from, header_limit, IsGap, IsNumeral, header}
-use Rattle.pnm_frames.specs.HasFault.{IsInRange, range_fault, HasNumbers, IsOpen, Pair, pair_value, pair_bytes, HasSamples, LacksSamples, HasAllSamples, IsNotP6, IsUnfinished, IsOutOfRange, HasFault}
+use Rattle.pnm_frames.specs.HasFault.{IsInRange, range_fault, HasNumbers, IsOpen, Pair, pair_value}
+use Rattle.pnm_frames.specs.HasFault.{pair_bytes, HasSamples, LacksSamples, HasAllSamples, IsNotP6}
+use Rattle.pnm_frames.specs.HasFault.{IsUnfinished, IsOutOfRange, HasFault}
 use Rattle.pnm_frames.specs.Picture.{Picture}
-use Rattle.pnm_frames.specs.Reading.{white_at, digits_at, number_at, ranged_at, magic_at, header_at, samples_at, frame_of}
+use Rattle.pnm_frames.specs.Reading.{white_at, digits_at, number_at, ranged_at, magic_at, header_at}
+use Rattle.pnm_frames.specs.Reading.{samples_at, frame_of}
 use Rattle.pnm_frames.proofs.Again.{no-white, number-again, ranged-again, parts-again}
-use Rattle.pnm_frames.proofs.FaultTold.{Ranges, ranges-width, ranges-height, ranges-maxval, judge, Fit}
+use Rattle.pnm_frames.proofs.FaultTold.{Ranges, ranges-width, ranges-height, ranges-maxval, judge}
+use Rattle.pnm_frames.proofs.FaultTold.{Fit}
 use Rattle.pnm_frames.proofs.FirstFault.{picture}
 use Rattle.pnm_frames.proofs.Files.{header-fault, raster-fault}
-use Rattle.pnm_frames.proofs.Laws.{IsWhite, IsDigit, Choice, Sizes, refused, behind_white, step3, step5, step7}
+use Rattle.pnm_frames.proofs.Laws.{IsWhite, IsDigit, Choice, Sizes, refused, behind_white, step3}
+use Rattle.pnm_frames.proofs.Laws.{step5, step7}
 
 -- ---- white space and digits that are allowed
 
-white-over : (gap : List ℕ) (at place : ℕ) (rest : List ℕ) → All IsWhite gap → place ≡ at + length gap → place ≤ header_limit → white_at at (gap ++ rest) ≡ white_at place rest
-white-over [] at place rest all here room = ap (λ (k : ℕ). white_at k rest) (let same : at ≡ place = omega (arith, here) in same)
+white-over : (gap : List ℕ) (at place : ℕ) (rest : List ℕ) → All IsWhite gap →
+    place ≡ at + length gap → place ≤ header_limit → white_at at (gap ++ rest) ≡ white_at place rest
+white-over [] at place rest all here room =
+    ap (λ (k : ℕ). white_at k rest) (let same : at ≡ place = omega (arith, here) in same)
 white-over (x ∷ gap) at place rest all here room =
-    let early : nat_lt at header_limit ≡ true = lt-ltb at header_limit (omega (arith, here, room)) in
+    let early : nat_lt at header_limit ≡ true =
+    lt-ltb at header_limit (omega (arith, here, room)) in
     let white : is_white x ≡ true = all 0 0 (omega arith) in
-    rw (early, white) (white-over gap (suc at) place rest (λ k d lt. all (suc k) d (omega (arith, lt))) (omega (arith, here)) room)
+    rw (early, white) (white-over gap (suc at) place rest
+    (λ k d lt. all (suc k) d (omega (arith, lt))) (omega (arith, here)) room)
 
-digits-over : (digits : List ℕ) (n at place : ℕ) (rest : List ℕ) → All IsDigit digits → place ≡ at + length digits → place ≤ header_limit → digits_at n at (digits ++ rest) ≡ digits_at (value_from n digits) place rest
-digits-over [] n at place rest all here room = ap (λ (k : ℕ). digits_at n k rest) (let same : at ≡ place = omega (arith, here) in same)
+digits-over : (digits : List ℕ) (n at place : ℕ) (rest : List ℕ) → All IsDigit digits →
+    place ≡ at + length digits → place ≤ header_limit →
+    digits_at n at (digits ++ rest) ≡ digits_at (value_from n digits) place rest
+digits-over [] n at place rest all here room =
+    ap (λ (k : ℕ). digits_at n k rest) (let same : at ≡ place = omega (arith, here) in same)
 digits-over (x ∷ digits) n at place rest all here room =
-    let early : nat_lt at header_limit ≡ true = lt-ltb at header_limit (omega (arith, here, room)) in
+    let early : nat_lt at header_limit ≡ true =
+    lt-ltb at header_limit (omega (arith, here, room)) in
     let digit : is_ascii_digit x ≡ true = all 0 0 (omega arith) in
-    rw (early, no-white x digit, digit) (digits-over digits (10 * n + (x - 48)) (suc at) place rest (λ k d lt. all (suc k) d (omega (arith, lt))) (omega (arith, here)) room)
+    rw (early, no-white x digit, digit)
+    (digits-over digits (10 * n + (x - 48)) (suc at) place rest
+    (λ k d lt. all (suc k) d (omega (arith, lt))) (omega (arith, here)) room)
 
 -- the same fault, whether a gap or a number stops at the place
-pub record StopsAt (place : ℕ) (rest : List ℕ) (fault : Fault) : Type 0 where
+pub record StopsAt (place : ℕ) (rest : List ℕ) (fault : FrameFault) : Type 0 where
   pub white : (white_at place rest >>= behind_white) ≡ Err fault
   pub digits : (n : ℕ) → digits_at n place rest ≡ Err fault
 
@@ -52,40 +74,52 @@ stops-short place early =
     let test : nat_lt place header_limit ≡ true = lt-ltb place header_limit early in
     record { white = rw test refl; digits = λ n. rw test refl }
 
-stops-bad : (place b : ℕ) (rest : List ℕ) → place < header_limit → is_white b ≡ false → is_ascii_digit b ≡ false → StopsAt place (b ∷ rest) (BadHeader place)
+stops-bad : (place b : ℕ) (rest : List ℕ) → place < header_limit → is_white b ≡ false →
+    is_ascii_digit b ≡ false → StopsAt place (b ∷ rest) (BadHeader place)
 stops-bad place b rest early other bad =
     let test : nat_lt place header_limit ≡ true = lt-ltb place header_limit early in
     let here : suc place - 1 ≡ place = omega arith in
     record { white = rw (test, other, bad, here) refl; digits = λ n. rw (test, other, bad) refl }
 
-number-stops : (gap digits : List ℕ) (at place : ℕ) (rest : List ℕ) (fault : Fault) → All IsWhite gap → All IsDigit digits → place ≡ at + length gap + length digits → place ≤ header_limit → StopsAt place rest fault
+number-stops : (gap digits : List ℕ) (at place : ℕ) (rest : List ℕ) (fault : FrameFault) →
+    All IsWhite gap → All IsDigit digits → place ≡ at + length gap + length digits →
+    place ≤ header_limit → StopsAt place rest fault
     → number_at at (gap ++ (digits ++ rest)) ≡ Err fault
 unfolding number_at
 number-stops gap [] at place rest fault white ascii here room stops =
     rw (white-over gap at place rest white (omega (arith, here)) room) stops.white
 number-stops gap (x ∷ digits) at place rest fault white ascii here room stops =
-    let early : nat_lt (at + length gap) header_limit ≡ true = lt-ltb (at + length gap) header_limit (omega (arith, here, room)) in
+    let early : nat_lt (at + length gap) header_limit ≡ true =
+    lt-ltb (at + length gap) header_limit (omega (arith, here, room)) in
     let digit : is_ascii_digit x ≡ true = ascii 0 0 (omega arith) in
-    let over = white-over gap at (at + length gap) (x ∷ (digits ++ rest)) white refl (omega (arith, here, room)) in
-    let more = digits-over digits (x - 48) (suc (at + length gap)) place rest (λ k d lt. ascii (suc k) d (omega (arith, lt))) (omega (arith, here)) room in
+    let over = white-over gap at (at + length gap) (x ∷ (digits ++ rest)) white refl
+    (omega (arith, here, room)) in
+    let more = digits-over digits (x - 48) (suc (at + length gap)) place rest
+    (λ k d lt. ascii (suc k) d (omega (arith, lt))) (omega (arith, here)) room in
     rw (over, early, no-white x digit, digit, more) (stops.digits (value_from (x - 48) digits))
 
 -- ---- how far a header is read
 
 -- reading goes on at the place with the next number
-pub record ReadsAt (limits : SizeLimits) (k : ℕ) (bytes : List ℕ) (at : ℕ) (rest : List ℕ) : Type 0 where
+pub record ReadsAt (limits : SizeLimits) (k : ℕ) (bytes : List ℕ) (at : ℕ)
+    (rest : List ℕ) : Type 0 where
   pub low : ℕ
   pub high : ℕ
-  pub next : Choice → ℕ → Result Sizes Fault
+  pub next : Choice → ℕ → Result Sizes FrameFault
   pub ranges : Ranges limits k low high
   pub reads : header_at limits bytes ≡ (ranged_at low high at rest >>= judge k next)
 
-ranged-stops : (low high at : ℕ) (rest : List ℕ) (k : ℕ) (next : Choice → ℕ → Result Sizes Fault) (fault : Fault) → number_at at rest ≡ Err fault → (ranged_at low high at rest >>= judge k next) ≡ Err fault
+ranged-stops : (low high at : ℕ) (rest : List ℕ) (k : ℕ)
+    (next : Choice → ℕ → Result Sizes FrameFault) (fault : FrameFault) →
+    number_at at rest ≡ Err fault → (ranged_at low high at rest >>= judge k next) ≡ Err fault
 unfolding ranged_at
 ranged-stops low high at rest k next fault stops = rw stops refl
 
-header-stops : (limits : SizeLimits) (k : ℕ) (bytes : List ℕ) (at : ℕ) (rest : List ℕ) (fault : Fault) → ReadsAt limits k bytes at rest → number_at at rest ≡ Err fault → header_at limits bytes ≡ Err fault
-header-stops limits k bytes at rest fault here stops = here.reads ∙ ranged-stops here.low here.high at rest k here.next fault stops
+header-stops : (limits : SizeLimits) (k : ℕ) (bytes : List ℕ) (at : ℕ) (rest : List ℕ)
+    (fault : FrameFault) → ReadsAt limits k bytes at rest → number_at at rest ≡ Err fault →
+    header_at limits bytes ≡ Err fault
+header-stops limits k bytes at rest fault here stops = here.reads
+    ∙ ranged-stops here.low here.high at rest k here.next fault stops
 
 both-false : (low high n : ℕ) → (low ≤ n → n ≤ high → ⊥) → (nat_le low n && nat_le n high) ≡ false
 both-false low high n out = elim (leb_tells low n) [
@@ -96,62 +130,100 @@ both-false low high n out = elim (leb_tells low n) [
   ]
 ]
 
-ranged-out : (low high at n place : ℕ) (rest behind : List ℕ) (k : ℕ) (next : Choice → ℕ → Result Sizes Fault) → number_at at rest ≡ Ok (n, place, behind) → (low ≤ n → n ≤ high → ⊥) → (ranged_at low high at rest >>= judge k next) ≡ Err (range_fault k)
+ranged-out : (low high at n place : ℕ) (rest behind : List ℕ) (k : ℕ)
+    (next : Choice → ℕ → Result Sizes FrameFault) → number_at at rest ≡ Ok (n, place, behind) →
+    (low ≤ n → n ≤ high → ⊥) → (ranged_at low high at rest >>= judge k next)
+    ≡ Err (range_fault k)
 unfolding ranged_at
-ranged-out low high at n place rest behind k next number out = rw (number, both-false low high n out) refl
+ranged-out low high at n place rest behind k next number out =
+    rw (number, both-false low high n out) refl
 
-header-out : (limits : SizeLimits) (k : ℕ) (bytes : List ℕ) (at n place : ℕ) (rest behind : List ℕ) → ReadsAt limits k bytes at rest → number_at at rest ≡ Ok (n, place, behind) → (IsInRange limits k n → ⊥) → header_at limits bytes ≡ Err (range_fault k)
+header-out : (limits : SizeLimits) (k : ℕ) (bytes : List ℕ) (at n place : ℕ)
+    (rest behind : List ℕ) → ReadsAt limits k bytes at rest →
+    number_at at rest ≡ Ok (n, place, behind) → (IsInRange limits k n → ⊥) →
+    header_at limits bytes ≡ Err (range_fault k)
 header-out limits k bytes at n place rest behind here number out =
-    here.reads ∙ ranged-out here.low here.high at n place rest behind k here.next number (λ low high. out (here.ranges.0 n low high))
+    here.reads ∙ ranged-out here.low here.high at n place rest behind k here.next number
+    (λ low high. out (here.ranges.0 n low high))
 
 -- what a number in its range leads to
-ranged-in : (low high at n place : ℕ) (rest behind : List ℕ) (k : ℕ) (next : Choice → ℕ → Result Sizes Fault) → number_at at rest ≡ Ok (n, place, behind) → low ≤ n → n ≤ high → (ranged_at low high at rest >>= judge k next) ≡ next (Some n, place, behind) n
+ranged-in : (low high at n place : ℕ) (rest behind : List ℕ) (k : ℕ)
+    (next : Choice → ℕ → Result Sizes FrameFault) → number_at at rest ≡ Ok (n, place, behind) →
+    low ≤ n → n ≤ high → (ranged_at low high at rest >>= judge k next)
+    ≡ next (Some n, place, behind) n
 ranged-in low high at n place rest behind k next number above below =
     rw (ranged-again low high at n place rest behind above below number) refl
 
-number-reads : (before gap digits front : List ℕ) (end n place : ℕ) (behind : List ℕ) → IsGap gap → IsNumeral digits n → is_white end ≡ true → front ≡ before ++ (gap ++ digits) → place ≡ length front + 1 → place ≤ header_limit
-    → (first : ℕ) × (rest : List ℕ) × (is_white first ≡ true) × (front ++ (end ∷ behind) ≡ before ++ (first ∷ rest)) × (number_at (length before + 1) rest ≡ Ok (n, place, behind))
-number-reads before [] digits front end n place behind is_gap numeral white whole here room = absurd (omega (arith, is_gap.some))
+number-reads : (before gap digits front : List ℕ) (end n place : ℕ) (behind : List ℕ) → IsGap gap →
+    IsNumeral digits n → is_white end ≡ true → front ≡ before ++ (gap ++ digits) →
+    place ≡ length front + 1 → place ≤ header_limit
+    → (first : ℕ) × (rest : List ℕ) × (is_white first ≡ true) ×
+    (front ++ (end ∷ behind) ≡ before ++ (first ∷ rest)) ×
+    (number_at (length before + 1) rest ≡ Ok (n, place, behind))
+number-reads before [] digits front end n place behind is_gap numeral white whole here room =
+    absurd (omega (arith, is_gap.some))
 number-reads before (g ∷ gap) digits front end n place behind is_gap numeral white whole here room =
-    let len : length front ≡ length before + (1 + length gap + length digits) = rw whole (simp length-append (omega arith)) in (
+    let len : length front ≡ length before + (1 + length gap + length digits) =
+    rw whole (simp length-append (omega arith)) in (
       g,
       gap ++ (digits ++ (end ∷ behind)),
       is_gap.white 0 0 (omega arith),
       rw whole (simp append_assoc),
-      number-again gap digits (length before + 1) place n end behind (λ k d lt. is_gap.white (suc k) d (omega (arith, lt))) numeral white (omega (arith, here, len)) room,
+      number-again gap digits (length before + 1) place n end behind
+          (λ k d lt. is_gap.white (suc k) d (omega (arith, lt))) numeral white
+          (omega (arith, here, len)) room,
     )
 
-reach-width : (limits : SizeLimits) (before : List ℕ) (end : ℕ) (rest : List ℕ) → HasNumbers limits 0 before → is_white end ≡ true
-    → header_at limits (before ++ (end ∷ rest)) ≡ (ranged_at 1 limits.width (length before + 1) rest >>= judge 0 (step3 limits))
+reach-width : (limits : SizeLimits) (before : List ℕ) (end : ℕ) (rest : List ℕ) →
+    HasNumbers limits 0 before → is_white end ≡ true
+    → header_at limits (before ++ (end ∷ rest))
+    ≡ (ranged_at 1 limits.width (length before + 1) rest >>= judge 0 (step3 limits))
 unfolding header_at magic_at
 reach-width limits before end rest magic white = rw (magic, white) refl
 
-reach-height : (limits : SizeLimits) (before : List ℕ) (end : ℕ) (rest : List ℕ) → HasNumbers limits 1 before → is_white end ≡ true → length before + 1 ≤ header_limit
-    → (w : ℕ) × (header_at limits (before ++ (end ∷ rest)) ≡ (ranged_at 1 limits.height (length before + 1) rest >>= judge 1 (step5 w)))
+reach-height : (limits : SizeLimits) (before : List ℕ) (end : ℕ) (rest : List ℕ) →
+    HasNumbers limits 1 before → is_white end ≡ true → length before + 1 ≤ header_limit
+    → (w : ℕ) × (header_at limits (before ++ (end ∷ rest))
+    ≡ (ranged_at 1 limits.height (length before + 1) rest >>= judge 1 (step5 w)))
 reach-height limits before end rest has white room =
     let n : ℕ = has.0 in
     let number = has.1 in
-    let read = number-reads number.before number.gap number.digits before end n (length before + 1) rest number.is_gap number.number white number.whole refl room in (
+    let read = number-reads number.before number.gap number.digits before end n
+    (length before + 1) rest number.is_gap number.number white number.whole refl room in (
       n,
-      ap (header_at limits) read.3 ∙ reach-width limits number.before read.0 read.1 number.begins read.2
-          ∙ ranged-in 1 limits.width (length number.before + 1) n (length before + 1) read.1 rest 0 (step3 limits) read.4 has.2.0 has.2.1,
+      ap (header_at limits) read.3
+          ∙ reach-width limits number.before read.0 read.1 number.begins read.2
+          ∙ ranged-in 1 limits.width (length number.before + 1) n (length before + 1) read.1 rest 0
+          (step3 limits) read.4 has.2.0 has.2.1,
     )
 
-reach-maxval : (limits : SizeLimits) (before : List ℕ) (end : ℕ) (rest : List ℕ) → HasNumbers limits 2 before → is_white end ≡ true → length before + 1 ≤ header_limit
-    → (w : ℕ) × (h : ℕ) × (header_at limits (before ++ (end ∷ rest)) ≡ (ranged_at 4095 4095 (length before + 1) rest >>= judge 2 (step7 w h)))
+reach-maxval : (limits : SizeLimits) (before : List ℕ) (end : ℕ) (rest : List ℕ) →
+    HasNumbers limits 2 before → is_white end ≡ true → length before + 1 ≤ header_limit
+    → (w : ℕ) × (h : ℕ) × (header_at limits (before ++ (end ∷ rest))
+    ≡ (ranged_at 4095 4095 (length before + 1) rest >>= judge 2 (step7 w h)))
 reach-maxval limits before end rest has white room =
     let n : ℕ = has.0 in
     let number = has.1 in
-    let read = number-reads number.before number.gap number.digits before end n (length before + 1) rest number.is_gap number.number white number.whole refl room in
-    let earlier : length number.before + 1 ≤ header_limit = omega (arith, room, ap (λ (t : List ℕ). length t) number.whole, length-append number.before (number.gap ++ number.digits)) in
+    let read = number-reads number.before number.gap number.digits before end n
+    (length before + 1) rest number.is_gap number.number white number.whole refl room in
+    let earlier : length number.before + 1 ≤ header_limit =
+    omega (
+      arith,
+      room,
+      ap (λ (t : List ℕ). length t) number.whole,
+      length-append number.before
+          (number.gap ++ number.digits),
+    ) in
     let width = reach-height limits number.before read.0 read.1 number.begins read.2 earlier in (
       width.0,
       n,
       ap (header_at limits) read.3 ∙ width.1
-          ∙ ranged-in 1 limits.height (length number.before + 1) n (length before + 1) read.1 rest 1 (step5 width.0) read.4 has.2.0 has.2.1,
+          ∙ ranged-in 1 limits.height (length number.before + 1) n (length before + 1) read.1 rest 1
+          (step5 width.0) read.4 has.2.0 has.2.1,
     )
 
-reads-at : (limits : SizeLimits) (k : ℕ) (before : List ℕ) (end : ℕ) (rest : List ℕ) → k < 3 → HasNumbers limits k before → is_white end ≡ true → length before + 1 ≤ header_limit
+reads-at : (limits : SizeLimits) (k : ℕ) (before : List ℕ) (end : ℕ) (rest : List ℕ) → k < 3 →
+    HasNumbers limits k before → is_white end ≡ true → length before + 1 ≤ header_limit
     → ReadsAt limits k (before ++ (end ∷ rest)) (length before + 1) rest
 reads-at limits zero before end rest few has white room = record {
   low = 1;
@@ -162,48 +234,89 @@ reads-at limits zero before end rest few has white room = record {
 }
 reads-at limits (suc zero) before end rest few has white room =
     let reach = reach-height limits before end rest has white room in
-    record { low = 1; high = limits.height; next = step5 reach.0; ranges = ranges-height limits; reads = reach.1 }
+    record {
+      low = 1;
+      high = limits.height;
+      next = step5 reach.0;
+      ranges =
+          ranges-height limits;
+      reads = reach.1;
+    }
 reads-at limits (suc (suc zero)) before end rest few has white room =
     let reach = reach-maxval limits before end rest has white room in
-    record { low = 4095; high = 4095; next = step7 reach.0 reach.1; ranges = ranges-maxval limits; reads = reach.2 }
+    record {
+      low = 4095;
+      high = 4095;
+      next = step7 reach.0 reach.1;
+      ranges =
+          ranges-maxval limits;
+      reads = reach.2;
+    }
 reads-at limits (suc (suc (suc k))) before end rest few has white room = absurd (omega (arith, few))
 
 -- ---- the faults of a header
 
-open-parts : (limits : SizeLimits) (k : ℕ) (before gap digits front rest : List ℕ) (fault : Fault) → k < 3 → HasNumbers limits k before → IsGap gap → All IsDigit digits → front ≡ before ++ (gap ++ digits)
-    → length front ≤ header_limit → StopsAt (length front) rest fault → header_at limits (front ++ rest) ≡ Err fault
-open-parts limits k before [] digits front rest fault few has is_gap ascii whole room stops = absurd (omega (arith, is_gap.some))
+open-parts : (limits : SizeLimits) (k : ℕ) (before gap digits front rest : List ℕ)
+    (fault : FrameFault) → k < 3 → HasNumbers limits k before → IsGap gap → All IsDigit digits →
+    front ≡ before ++ (gap ++ digits)
+    → length front ≤ header_limit → StopsAt (length front) rest fault →
+    header_at limits (front ++ rest) ≡ Err fault
+open-parts limits k before [] digits front rest fault few has is_gap ascii whole room stops =
+    absurd (omega (arith, is_gap.some))
 open-parts limits k before (g ∷ gap) digits front rest fault few has is_gap ascii whole room stops =
-    let len : length front ≡ length before + (1 + length gap + length digits) = rw whole (simp length-append (omega arith)) in
-    let same : front ++ rest ≡ before ++ (g ∷ (gap ++ (digits ++ rest))) = rw whole (simp append_assoc) in
-    let here = reads-at limits k before g (gap ++ (digits ++ rest)) few has (is_gap.white 0 0 (omega arith)) (omega (arith, len, room)) in
-    ap (header_at limits) same ∙ header-stops limits k (before ++ (g ∷ (gap ++ (digits ++ rest)))) (length before + 1) (gap ++ (digits ++ rest)) fault here
-    (number-stops gap digits (length before + 1) (length front) rest fault (λ k d lt. is_gap.white (suc k) d (omega (arith, lt))) ascii (omega (arith, len)) room stops)
+    let len : length front ≡ length before + (1 + length gap + length digits) =
+    rw whole (simp length-append (omega arith)) in
+    let same : front ++ rest ≡ before ++ (g ∷ (gap ++ (digits ++ rest))) =
+    rw whole (simp append_assoc) in
+    let here = reads-at limits k before g (gap ++ (digits ++ rest)) few has
+    (is_gap.white 0 0 (omega arith)) (omega (arith, len, room)) in
+    ap (header_at limits) same ∙ header-stops limits k (before ++ (g ∷ (gap ++ (digits ++ rest))))
+    (length before + 1) (gap ++ (digits ++ rest)) fault here
+    (number-stops gap digits (length before + 1) (length front) rest fault
+    (λ k d lt. is_gap.white (suc k) d (omega (arith, lt))) ascii
+    (omega (arith, len)) room stops)
 
-open-stops : (limits : SizeLimits) (front rest : List ℕ) (fault : Fault) → IsOpen limits front → length front ≤ header_limit → StopsAt (length front) rest fault → frame_of limits (front ++ rest) ≡ Err fault
+open-stops : (limits : SizeLimits) (front rest : List ℕ) (fault : FrameFault) →
+    IsOpen limits front → length front ≤ header_limit → StopsAt (length front) rest fault →
+    frame_of limits (front ++ rest) ≡ Err fault
 open-stops limits front rest fault so_far room stops =
     header-fault limits (front ++ rest) fault
     (open-parts limits so_far.numbers so_far.before so_far.gap so_far.digits front rest fault so_far.few so_far.begins so_far.is_gap so_far.ascii so_far.whole room stops)
 
-range-shown : (limits : SizeLimits) (k : ℕ) (bytes : List ℕ) → k < 3 → IsOutOfRange limits k bytes → frame_of limits bytes ≡ Err (range_fault k)
+range-shown : (limits : SizeLimits) (k : ℕ) (bytes : List ℕ) → k < 3 → IsOutOfRange limits k bytes →
+    frame_of limits bytes ≡ Err (range_fault k)
 range-shown limits k bytes few out =
     let front : List ℕ = out.0 in
     let end : ℕ = out.1 in
     let rest : List ℕ = out.2 in
     let n : ℕ = out.3 in
     let number = out.5 in
-    let read = number-reads number.before number.gap number.digits front end n (length front + 1) rest number.is_gap number.number out.7 number.whole refl (omega (arith, out.8)) in
-    let earlier : length number.before + 1 ≤ header_limit = omega (arith, out.8, ap (λ (t : List ℕ). length t) number.whole, length-append number.before (number.gap ++ number.digits)) in
+    let read = number-reads number.before number.gap number.digits front end n
+    (length front + 1) rest number.is_gap number.number out.7 number.whole refl
+    (omega (arith, out.8)) in
+    let earlier : length number.before + 1 ≤ header_limit =
+    omega (
+      arith,
+      out.8,
+      ap (λ (t : List ℕ). length t) number.whole,
+      length-append number.before
+          (number.gap ++ number.digits),
+    ) in
     let here = reads-at limits k number.before read.0 read.1 few number.begins read.2 earlier in
     header-fault limits bytes (range_fault k)
-    (ap (header_at limits) (out.4 ∙ read.3) ∙ header-out limits k (number.before ++ (read.0 ∷ read.1)) (length number.before + 1) n (length front + 1) read.1 rest here read.4 out.6)
+    (ap (header_at limits) (out.4 ∙ read.3)
+    ∙ header-out limits k (number.before ++ (read.0 ∷ read.1)) (length number.before + 1) n
+    (length front + 1) read.1 rest here read.4 out.6)
 
-magic-fault : (limits : SizeLimits) (bytes : List ℕ) (fault : Fault) → magic_at 0 bytes ≡ Err fault → header_at limits bytes ≡ Err fault
+magic-fault : (limits : SizeLimits) (bytes : List ℕ) (fault : FrameFault) →
+    magic_at 0 bytes ≡ Err fault → header_at limits bytes ≡ Err fault
 unfolding header_at
 magic-fault limits bytes fault stops = rw stops refl
 
-magic-shown : (limits : SizeLimits) (bytes : List ℕ) (fault : Fault) → magic_at 0 bytes ≡ Err fault → frame_of limits bytes ≡ Err fault
-magic-shown limits bytes fault stops = header-fault limits bytes fault (magic-fault limits bytes fault stops)
+magic-shown : (limits : SizeLimits) (bytes : List ℕ) (fault : FrameFault) →
+    magic_at 0 bytes ≡ Err fault → frame_of limits bytes ≡ Err fault
+magic-shown limits bytes fault stops =
+    header-fault limits bytes fault (magic-fault limits bytes fault stops)
 
 not-magic : (bytes : List ℕ) → IsNotP6 bytes → magic_at 0 bytes ≡ Err NotPpm
 unfolding magic_at
@@ -215,13 +328,15 @@ not-magic (p ∷ six ∷ bytes) other =
       | inl is ↦ rw (is.0, ne_eqb six 54 (other is.1)) refl
     ]
 
-magic-ends : (bytes : List ℕ) → (bytes ≡ []) ⊎ ((bytes ≡ 80 ∷ []) ⊎ (bytes ≡ 80 ∷ 54 ∷ [])) → magic_at 0 bytes ≡ Err (Truncated (length bytes))
+magic-ends : (bytes : List ℕ) → (bytes ≡ []) ⊎ ((bytes ≡ 80 ∷ []) ⊎ (bytes ≡ 80 ∷ 54 ∷ [])) →
+    magic_at 0 bytes ≡ Err (Truncated (length bytes))
 unfolding magic_at
 magic-ends bytes (inl none) = rw none refl
 magic-ends bytes (inr (inl one)) = rw one refl
 magic-ends bytes (inr (inr two)) = rw two refl
 
-magic-bad : (front : List ℕ) (b : ℕ) (rest : List ℕ) → front ≡ 80 ∷ 54 ∷ [] → is_white b ≡ false → magic_at 0 (front ++ (b ∷ rest)) ≡ Err (BadHeader (length front))
+magic-bad : (front : List ℕ) (b : ℕ) (rest : List ℕ) → front ≡ 80 ∷ 54 ∷ [] → is_white b ≡ false →
+    magic_at 0 (front ++ (b ∷ rest)) ≡ Err (BadHeader (length front))
 unfolding magic_at
 magic-bad front b rest magic other = rw (magic, other) refl
 
@@ -231,47 +346,68 @@ length-pairs : (samples : List Pair) → length (flat_map pair_bytes samples) �
 length-pairs [] = omega arith
 length-pairs (pair ∷ samples) = omega (arith, length-pairs samples)
 
-samples-over : (samples : List Pair) (n at place : ℕ) (rest : List ℕ) (fault : Fault) → All Fit samples → place ≡ at + 2 * length samples → samples_at n place rest ≡ Err fault
+samples-over : (samples : List Pair) (n at place : ℕ) (rest : List ℕ) (fault : FrameFault) →
+    All Fit samples → place ≡ at + 2 * length samples → samples_at n place rest ≡ Err fault
     → samples_at (length samples + n) at (flat_map pair_bytes samples ++ rest) ≡ Err fault
 samples-over [] n at place rest fault all here stops =
     let same : place ≡ at = omega (arith, here) in
     rw (zero-add n) (rw same at stops)
 samples-over (pair ∷ samples) n at place rest fault all here stops =
     let count : suc (length samples) + n ≡ suc (length samples + n) = omega arith in
-    let test : nat_le (256 * pair.high + pair.low) 4095 ≡ true = le-leb (256 * pair.high + pair.low) 4095 (all 0 pair (omega arith)) in
-    let on = samples-over samples n (suc (suc at)) place rest fault (λ k d lt. all (suc k) d (omega (arith, lt))) (omega (arith, here)) stops in
+    let test : nat_le (256 * pair.high + pair.low) 4095 ≡ true =
+    le-leb (256 * pair.high + pair.low) 4095 (all 0 pair (omega arith)) in
+    let on = samples-over samples n (suc (suc at)) place rest fault
+    (λ k d lt. all (suc k) d (omega (arith, lt))) (omega (arith, here)) stops in
     rw (count, test, on) refl
 
-samples-all : (samples : List Pair) (at : ℕ) (rest : List ℕ) → All Fit samples → (values : List ℕ) × (samples_at (length samples) at (flat_map pair_bytes samples ++ rest) ≡ Ok (values, rest))
+samples-all : (samples : List Pair) (at : ℕ) (rest : List ℕ) → All Fit samples →
+    (values : List ℕ) × (samples_at (length samples) at (flat_map pair_bytes samples ++ rest)
+    ≡ Ok (values, rest))
 samples-all [] at rest all = ([], refl)
 samples-all (pair ∷ samples) at rest all =
-    let test : nat_le (256 * pair.high + pair.low) 4095 ≡ true = le-leb (256 * pair.high + pair.low) 4095 (all 0 pair (omega arith)) in
-    let on = samples-all samples (suc (suc at)) rest (λ k d lt. all (suc k) d (omega (arith, lt))) in
+    let test : nat_le (256 * pair.high + pair.low) 4095 ≡ true =
+    le-leb (256 * pair.high + pair.low) 4095 (all 0 pair (omega arith)) in
+    let on = samples-all samples (suc (suc at)) rest
+    (λ k d lt. all (suc k) d (omega (arith, lt))) in
     ((256 * pair.high + pair.low) ∷ on.0, rw (test, on.1) refl)
 
 header-read : (limits : SizeLimits) (front rest : List ℕ) (has : HasSamples limits front)
-    → (at : ℕ) × (header_at limits (front ++ rest) ≡ Ok ((has.width, has.height), at, flat_map pair_bytes has.samples ++ rest)) × (length front ≡ at + 2 * length has.samples)
+    → (at : ℕ) × (header_at limits (front ++ rest)
+    ≡ Ok ((has.width, has.height), at, flat_map pair_bytes has.samples ++ rest)) ×
+    (length front ≡ at + 2 * length has.samples)
 header-read limits front rest has =
     let parts = has.parts in
     let left : List ℕ = flat_map pair_bytes has.samples ++ rest in
     let head = parts-again limits has.width has.height parts.end parts.gap1 parts.width parts.gap2 parts.height parts.gap3 parts.maxval left
     has.within.some_width has.within.width_in_limits has.within.some_height has.within.height_in_limits has.is_header in
-    let same : front ++ rest ≡ header parts ++ left = ap (λ (t : List ℕ). t ++ rest) has.whole ∙ append_assoc (header parts) (flat_map pair_bytes has.samples) rest in
-    let len : length front ≡ length (header parts) + length (flat_map pair_bytes has.samples) = ap (λ (t : List ℕ). length t) has.whole ∙ length-append (header parts) (flat_map pair_bytes has.samples) in
-    (head.0, ap (header_at limits) same ∙ head.1, omega (arith, len, head.2, length-pairs has.samples))
+    let same : front ++ rest ≡ header parts ++ left = ap (λ (t : List ℕ). t ++ rest) has.whole
+    ∙ append_assoc (header parts) (flat_map pair_bytes has.samples) rest in
+    let len : length front ≡ length (header parts) + length (flat_map pair_bytes has.samples) =
+    ap (λ (t : List ℕ). length t) has.whole
+    ∙ length-append (header parts) (flat_map pair_bytes has.samples) in (
+      head.0,
+      ap (header_at limits) same
+          ∙ head.1,
+      omega (arith, len, head.2, length-pairs has.samples),
+    )
 
-lacks-stops : (limits : SizeLimits) (front rest : List ℕ) (fault : Fault) → LacksSamples limits front → ((n : ℕ) → samples_at (suc n) (length front) rest ≡ Err fault) → frame_of limits (front ++ rest) ≡ Err fault
+lacks-stops : (limits : SizeLimits) (front rest : List ℕ) (fault : FrameFault) →
+    LacksSamples limits front → ((n : ℕ) → samples_at (suc n) (length front) rest ≡ Err fault) →
+    frame_of limits (front ++ rest) ≡ Err fault
 lacks-stops limits front rest fault lacks stops =
     let has = lacks.0 in
     let head = header-read limits front rest has in
     let total : ℕ = 3 * (has.width * has.height) in
     let left : ℕ = total - (length has.samples + 1) in
     let count : total ≡ length has.samples + suc left = omega (arith, lacks.1) in
-    raster-fault limits (front ++ rest) has.width has.height head.0 (flat_map pair_bytes has.samples ++ rest) fault head.1
+    raster-fault limits (front ++ rest) has.width has.height head.0
+    (flat_map pair_bytes has.samples ++ rest) fault head.1
     (ap (λ (n : ℕ). samples_at n head.0 (flat_map pair_bytes has.samples ++ rest)) count
-    ∙ samples-over has.samples (suc left) head.0 (length front) rest fault has.fit head.2 (stops left))
+    ∙ samples-over has.samples (suc left) head.0 (length front) rest fault has.fit head.2
+    (stops left))
 
-trailing-shown : (limits : SizeLimits) (front : List ℕ) (b : ℕ) (rest : List ℕ) → HasAllSamples limits front → frame_of limits (front ++ (b ∷ rest)) ≡ Err TrailingBytes
+trailing-shown : (limits : SizeLimits) (front : List ℕ) (b : ℕ) (rest : List ℕ) →
+    HasAllSamples limits front → frame_of limits (front ++ (b ∷ rest)) ≡ Err TrailingBytes
 unfolding frame_of
 trailing-shown limits front b rest all =
     let has = all.0 in
@@ -279,54 +415,81 @@ trailing-shown limits front b rest all =
     let samples = samples-all has.samples head.0 (b ∷ rest) has.fit in
     rw (head.1, ← all.1, samples.1) refl
 
-pub all-shown : (limits : SizeLimits) (bytes : List ℕ) → HasAllSamples limits bytes → (p : Picture) × (frame_of limits bytes ≡ Ok p)
+pub all-shown : (limits : SizeLimits) (bytes : List ℕ) → HasAllSamples limits bytes →
+    (p : Picture) × (frame_of limits bytes ≡ Ok p)
 unfolding frame_of
 all-shown limits bytes all =
     let has = all.0 in
     let head = header-read limits bytes [] has in
-    let samples = samples-all has.samples head.0 [] has.fit in
-    (picture (has.width, has.height) samples.0, ap (frame_of limits) (sym (append-nil bytes)) ∙ rw (head.1, ← all.1, samples.1) refl)
+    let samples = samples-all has.samples head.0 [] has.fit in (
+      picture (has.width, has.height) samples.0,
+      ap (frame_of limits) (sym (append-nil bytes))
+          ∙ rw (head.1, ← all.1, samples.1) refl,
+    )
 
-half-stops : (n at : ℕ) (half : List ℕ) → length half < 2 → samples_at (suc n) at half ≡ Err (Truncated (at + length half))
-half-stops n at [] few = ap (λ (k : ℕ). refused (Truncated k)) (let same : at ≡ at + 0 = omega arith in same)
-half-stops n at (b ∷ []) few = ap (λ (k : ℕ). refused (Truncated k)) (let same : suc at ≡ at + 1 = omega arith in same)
+half-stops : (n at : ℕ) (half : List ℕ) → length half < 2 →
+    samples_at (suc n) at half ≡ Err (Truncated (at + length half))
+half-stops n at [] few = ap (λ (k : ℕ). refused (Truncated k))
+    (let same : at ≡ at + 0 = omega arith in same)
+half-stops n at (b ∷ []) few =
+    ap (λ (k : ℕ). refused (Truncated k)) (let same : suc at ≡ at + 1 = omega arith in same)
 half-stops n at (a ∷ b ∷ half) few = absurd (omega (arith, few))
 
-large-stops : (n at : ℕ) (pair : Pair) (rest : List ℕ) → 4095 < pair_value pair → samples_at (suc n) at (pair_bytes pair ++ rest) ≡ Err (SampleTooLarge at)
+large-stops : (n at : ℕ) (pair : Pair) (rest : List ℕ) → 4095 < pair_value pair →
+    samples_at (suc n) at (pair_bytes pair ++ rest) ≡ Err (SampleTooLarge at)
 large-stops n at pair rest large = rw (lt-leb (256 * pair.high + pair.low) 4095 large) refl
 
 -- ---- the file
 
-bad-shown : (limits : SizeLimits) (front : List ℕ) (b : ℕ) (rest : List ℕ) → length front < header_limit → is_white b ≡ false → (front ≡ 80 ∷ 54 ∷ []) ⊎ (IsOpen limits front × (is_ascii_digit b ≡ false))
+bad-shown : (limits : SizeLimits) (front : List ℕ) (b : ℕ) (rest : List ℕ) →
+    length front < header_limit → is_white b ≡ false →
+    (front ≡ 80 ∷ 54 ∷ []) ⊎ (IsOpen limits front × (is_ascii_digit b ≡ false))
     → frame_of limits (front ++ (b ∷ rest)) ≡ Err (BadHeader (length front))
-bad-shown limits front b rest early other (inl magic) = magic-shown limits (front ++ (b ∷ rest)) (BadHeader (length front)) (magic-bad front b rest magic other)
+bad-shown limits front b rest early other (inl magic) =
+    magic-shown limits (front ++ (b ∷ rest)) (BadHeader (length front))
+    (magic-bad front b rest magic other)
 bad-shown limits front b rest early other (inr so_far) =
-    open-stops limits front (b ∷ rest) (BadHeader (length front)) so_far.0 (omega (arith, early)) (stops-bad (length front) b rest early other so_far.1)
+    open-stops limits front (b ∷ rest) (BadHeader (length front)) so_far.0 (omega (arith, early))
+    (stops-bad (length front) b rest early other so_far.1)
 
-short-shown : (limits : SizeLimits) (bytes : List ℕ) → IsUnfinished limits bytes → frame_of limits bytes ≡ Err (Truncated (length bytes))
-short-shown limits bytes (inl none) = magic-shown limits bytes (Truncated (length bytes)) (magic-ends bytes (inl none))
-short-shown limits bytes (inr (inl one)) = magic-shown limits bytes (Truncated (length bytes)) (magic-ends bytes (inr (inl one)))
-short-shown limits bytes (inr (inr (inl two))) = magic-shown limits bytes (Truncated (length bytes)) (magic-ends bytes (inr (inr two)))
+short-shown : (limits : SizeLimits) (bytes : List ℕ) → IsUnfinished limits bytes →
+    frame_of limits bytes ≡ Err (Truncated (length bytes))
+short-shown limits bytes (inl none) =
+    magic-shown limits bytes (Truncated (length bytes)) (magic-ends bytes (inl none))
+short-shown limits bytes (inr (inl one)) =
+    magic-shown limits bytes (Truncated (length bytes)) (magic-ends bytes (inr (inl one)))
+short-shown limits bytes (inr (inr (inl two))) =
+    magic-shown limits bytes (Truncated (length bytes)) (magic-ends bytes (inr (inr two)))
 short-shown limits bytes (inr (inr (inr (inl so_far)))) =
-    ap (frame_of limits) (sym (append-nil bytes)) ∙ open-stops limits bytes [] (Truncated (length bytes)) so_far.0 (omega (arith, so_far.1)) (stops-short (length bytes) so_far.1)
+    ap (frame_of limits) (sym (append-nil bytes))
+    ∙ open-stops limits bytes [] (Truncated (length bytes)) so_far.0 (omega (arith, so_far.1))
+    (stops-short (length bytes) so_far.1)
 short-shown limits bytes (inr (inr (inr (inr half)))) =
     let front : List ℕ = half.0 in
     let last : List ℕ = half.1 in
-    let len : length front + length last ≡ length bytes = sym (ap (λ (t : List ℕ). length t) half.2 ∙ length-append front last) in
+    let len : length front + length last ≡ length bytes =
+    sym (ap (λ (t : List ℕ). length t) half.2 ∙ length-append front last) in
     ap (frame_of limits) half.2 ∙ lacks-stops limits front last (Truncated (length bytes)) half.3
     (λ n. half-stops n (length front) last half.4 ∙ ap (λ (k : ℕ). refused (Truncated k)) len)
 
-pub fault-shown : (limits : SizeLimits) (bytes : List ℕ) (fault : Fault) → HasFault limits bytes fault → frame_of limits bytes ≡ Err fault
+pub fault-shown : (limits : SizeLimits) (bytes : List ℕ) (fault : FrameFault) →
+    HasFault limits bytes fault → frame_of limits bytes ≡ Err fault
 fault-shown limits bytes NotPpm has = magic-shown limits bytes NotPpm (not-magic bytes has)
 fault-shown limits bytes (BadHeader place) has =
-    ap (frame_of limits) has.3 ∙ bad-shown limits has.0 has.1 has.2 (omega (arith, has.4, has.5)) has.6.0 has.6.1 ∙ ap (λ (k : ℕ). refused (BadHeader k)) has.4
+    ap (frame_of limits) has.3 ∙ bad-shown limits has.0 has.1 has.2
+    (omega (arith, has.4, has.5)) has.6.0 has.6.1 ∙ ap (λ (k : ℕ). refused (BadHeader k)) has.4
 fault-shown limits bytes HeaderTooLong has =
-    ap (frame_of limits) has.2 ∙ open-stops limits has.0 has.1 HeaderTooLong has.4 (omega (arith, has.3)) (stops-late (length has.0) has.1 (omega (arith, has.3)))
+    ap (frame_of limits) has.2 ∙ open-stops limits has.0 has.1 HeaderTooLong has.4
+    (omega (arith, has.3)) (stops-late (length has.0) has.1 (omega (arith, has.3)))
 fault-shown limits bytes WidthOutOfRange has = range-shown limits 0 bytes (omega arith) has
 fault-shown limits bytes HeightOutOfRange has = range-shown limits 1 bytes (omega arith) has
 fault-shown limits bytes WrongMaxval has = range-shown limits 2 bytes (omega arith) has
 fault-shown limits bytes (SampleTooLarge place) has =
-    ap (frame_of limits) has.3 ∙ lacks-stops limits has.0 (pair_bytes has.1 ++ has.2) (SampleTooLarge place) has.5
-    (λ n. large-stops n (length has.0) has.1 has.2 has.6 ∙ ap (λ (k : ℕ). refused (SampleTooLarge k)) has.4)
-fault-shown limits bytes (Truncated seen) has = short-shown limits bytes has.1 ∙ ap (λ (k : ℕ). refused (Truncated k)) has.0
-fault-shown limits bytes TrailingBytes has = ap (frame_of limits) has.3 ∙ trailing-shown limits has.0 has.1 has.2 has.4
+    ap (frame_of limits) has.3 ∙ lacks-stops limits has.0 (pair_bytes has.1 ++ has.2)
+    (SampleTooLarge place) has.5
+    (λ n. large-stops n (length has.0) has.1 has.2 has.6
+    ∙ ap (λ (k : ℕ). refused (SampleTooLarge k)) has.4)
+fault-shown limits bytes (Truncated seen) has = short-shown limits bytes has.1
+    ∙ ap (λ (k : ℕ). refused (Truncated k)) has.0
+fault-shown limits bytes TrailingBytes has = ap (frame_of limits) has.3
+    ∙ trailing-shown limits has.0 has.1 has.2 has.4

@@ -1,5 +1,8 @@
--- What is told of a file is what is wrong with it.
-use Rattle.std.proofs.Common.{◌≡◌, ℕ, zero, suc, ◌+◌, ◌*◌, ◌-◌, ◌<◌, ◌≤◌, Bool, true, false, cond, ◌&&◌, ◌⊎◌, List, [], ◌∷◌, ◌++◌, length, Some, None, Result, Ok, Err, refl, sym, ap, subst, ◌∙◌, inl, inr, append_assoc, arith, zero-add, length-append}
+-- The fault that reading gives is what is wrong with a file.
+use Rattle.std.proofs.Common.{◌≡◌, ℕ, zero, suc, ◌+◌, ◌*◌, ◌-◌, ◌<◌, ◌≤◌, Bool, true, false, cond}
+use Rattle.std.proofs.Common.{◌&&◌, ◌⊎◌, List, [], ◌∷◌, ◌++◌, length, Some, None, Result, Ok, Err}
+use Rattle.std.proofs.Common.{refl, sym, ap, subst, ◌∙◌, inl, inr, append_assoc, arith, zero-add}
+use Rattle.std.proofs.Common.{length-append}
 use Rattle.std.specs.Prelude.{All, nat_lt, nat_le}
 use Rattle.std.specs.Char.{is_ascii_digit}
 use Rattle.std.specs.List.{flat_map}
@@ -9,52 +12,77 @@ use Rattle.std.proofs.lemmas.Grind.{flat_map-append}
 use Rattle.std.proofs.lemmas.List.{append-nil}
 use Rattle.std.proofs.lemmas.List.Elements.{All-cons, All-nil, All-append}
 use Rattle.pnm_frames.specs.declared.limits.SizeLimits.{SizeLimits}
-use Rattle.pnm_frames.specs.Fault.{Fault, NotPpm, BadHeader, HeaderTooLong, SampleTooLarge, Truncated, TrailingBytes, ◌>>=◌}
+use Rattle.pnm_frames.specs.declared.fault.FrameFault.{FrameFault}
+use Rattle.pnm_frames.specs.declared.fault.FrameFault.TheVariants.{NotPpm, BadHeader, HeaderTooLong}
+use Rattle.pnm_frames.specs.declared.fault.FrameFault.TheVariants.{SampleTooLarge, Truncated}
+use Rattle.pnm_frames.specs.declared.fault.FrameFault.TheVariants.{TrailingBytes}
+use Rattle.pnm_frames.specs.Fault.{◌>>=◌}
 use Rattle.pnm_frames.specs.Grammar.{is_white, header_limit, IsGap, header}
-use Rattle.pnm_frames.specs.HasFault.{IsInRange, range_fault, HasNumbers, IsOpen, Pair, pair_value, pair_bytes, HasSamples, HasAllSamples, IsOutOfRange, HasFault}
+use Rattle.pnm_frames.specs.HasFault.{IsInRange, range_fault, HasNumbers, IsOpen, Pair, pair_value}
+use Rattle.pnm_frames.specs.HasFault.{pair_bytes, HasSamples, HasAllSamples, IsOutOfRange, HasFault}
 use Rattle.pnm_frames.specs.Picture.{Picture, IsSample, IsWithin}
-use Rattle.pnm_frames.specs.Reading.{Read, white_at, digits_at, number_at, ranged_at, or_fault, magic_at, header_at, samples_at, ended, frame_of}
-use Rattle.pnm_frames.proofs.FirstFault.{Samples, with_sample, picture, behind_samples, behind_header}
-use Rattle.pnm_frames.proofs.Laws.{IsWhite, IsDigit, Point, Choice, Mark, Sizes, NumberRead, HeaderRead, chosen, value-is, no-value, refused, bind_ok, behind_white, judged, white-found, number-found, magic-found, header-found, gap-of, step1, step3, step5, step7}
+use Rattle.pnm_frames.specs.Reading.{Read, white_at, digits_at, number_at, ranged_at, or_fault}
+use Rattle.pnm_frames.specs.Reading.{magic_at, header_at, samples_at, ended, frame_of}
+use Rattle.pnm_frames.proofs.FirstFault.{Samples, with_sample, picture, behind_samples}
+use Rattle.pnm_frames.proofs.FirstFault.{behind_header}
+use Rattle.pnm_frames.proofs.Laws.{IsWhite, IsDigit, Point, Choice, Mark, Sizes, NumberRead}
+use Rattle.pnm_frames.proofs.Laws.{HeaderRead, chosen, value-is, no-value, refused, bind_ok}
+use Rattle.pnm_frames.proofs.Laws.{behind_white, judged, white-found, number-found, magic-found}
+use Rattle.pnm_frames.proofs.Laws.{header-found, gap-of, step1, step3, step5, step7}
 
-fault-is : {B : Type 0} (d e : Fault) → refused {A = B} d ≡ refused e → d ≡ e
+fault-is : {B : Type 0} (d e : FrameFault) → refused {A = B} d ≡ refused e → d ≡ e
 fault-is d e h = cc
 
-bind_err : {A B : Type 0} (r : Result A Fault) (f : A → Result B Fault) (e : Fault) → (r >>= f) ≡ Err e → (r ≡ Err e) ⊎ ((x : A) × (r ≡ Ok x) × (f x ≡ Err e))
+bind_err : {A B : Type 0} (r : Result A FrameFault) (f : A → Result B FrameFault) (e : FrameFault) →
+    (r >>= f) ≡ Err e → (r ≡ Err e) ⊎ ((x : A) × (r ≡ Ok x) × (f x ≡ Err e))
 bind_err (Ok x) f e h = inr (x, refl, h)
-bind_err (Err d) f e h = inl (ap (λ (x : Fault). refused x) (fault-is d e h))
+bind_err (Err d) f e h = inl (ap (λ (x : FrameFault). refused x) (fault-is d e h))
 
-no-fault : {A : Type 0} {f : Fault} {x : A} → (let r : Result A Fault = Ok x in r) ≡ refused f → ⊥
+no-fault : {A : Type 0} {f : FrameFault} {x : A} →
+    (let r : Result A FrameFault = Ok x in r) ≡ refused f → ⊥
 no-fault e = cc
 
 -- ---- a header that hasn't ended
 
-open-late : (limits : SizeLimits) (front rest : List ℕ) (at : ℕ) → IsOpen limits front → length front ≡ at → at ≤ header_limit → header_limit ≤ at → HasFault limits (front ++ rest) HeaderTooLong
-open-late limits front rest at so_far len room late = (front, rest, refl, omega (arith, len, room, late), so_far)
+open-late : (limits : SizeLimits) (front rest : List ℕ) (at : ℕ) → IsOpen limits front →
+    length front ≡ at → at ≤ header_limit → header_limit ≤ at →
+    HasFault limits (front ++ rest) HeaderTooLong
+open-late limits front rest at so_far len room late =
+    (front, rest, refl, omega (arith, len, room, late), so_far)
 
-open-short : (limits : SizeLimits) (front : List ℕ) (at : ℕ) → IsOpen limits front → length front ≡ at → at < header_limit → HasFault limits (front ++ []) (Truncated at)
+open-short : (limits : SizeLimits) (front : List ℕ) (at : ℕ) → IsOpen limits front →
+    length front ≡ at → at < header_limit → HasFault limits (front ++ []) (Truncated at)
 open-short limits front at so_far len early =
     rw (append-nil front) (len, inr (inr (inr (inl (so_far, omega (arith, len, early))))))
 
-open-bad : (limits : SizeLimits) (front : List ℕ) (at b : ℕ) (rest : List ℕ) → IsOpen limits front → length front ≡ at → at < header_limit → is_white b ≡ false → is_ascii_digit b ≡ false
+open-bad : (limits : SizeLimits) (front : List ℕ) (at b : ℕ) (rest : List ℕ) → IsOpen limits front →
+    length front ≡ at → at < header_limit → is_white b ≡ false → is_ascii_digit b ≡ false
     → HasFault limits (front ++ (b ∷ rest)) (BadHeader at)
-open-bad limits front at b rest so_far len early other bad = (front, b, rest, refl, len, early, (other, inr (so_far, bad)))
+open-bad limits front at b rest so_far len early other bad =
+    (front, b, rest, refl, len, early, (other, inr (so_far, bad)))
 
-told : (limits : SizeLimits) (bytes : List ℕ) (d e : Fault) → d ≡ e → HasFault limits bytes d → HasFault limits bytes e
-told limits bytes d e same has = subst (λ (x : Fault). HasFault limits bytes x) same has
+told : (limits : SizeLimits) (bytes : List ℕ) (d e : FrameFault) → d ≡ e → HasFault limits bytes d →
+    HasFault limits bytes e
+told limits bytes d e same has = subst (λ (x : FrameFault). HasFault limits bytes x) same has
 
 -- a file that ends in a header, or a header that is as long as the longest
-open-ends : {A : Type 0} (limits : SizeLimits) (front : List ℕ) (at : ℕ) (e : Fault) → IsOpen limits front → length front ≡ at → at ≤ header_limit
-    → cond (nat_lt at header_limit) (refused {A = A} (Truncated at)) (refused HeaderTooLong) ≡ refused e → HasFault limits (front ++ []) e
+open-ends : {A : Type 0} (limits : SizeLimits) (front : List ℕ) (at : ℕ) (e : FrameFault) →
+    IsOpen limits front → length front ≡ at → at ≤ header_limit
+    → cond (nat_lt at header_limit) (refused {A = A} (Truncated at)) (refused HeaderTooLong)
+    ≡ refused e → HasFault limits (front ++ []) e
 open-ends limits front at e so_far len room h =
-    elim (chosen (nat_lt at header_limit) (refused (Truncated at)) (refused HeaderTooLong) (refused e) h) [
-      | inl early ↦ told limits (front ++ []) (Truncated at) e (fault-is (Truncated at) e early.1) (open-short limits front at so_far len (ltb-true at header_limit early.0))
-      | inr late ↦ told limits (front ++ []) HeaderTooLong e (fault-is HeaderTooLong e late.1) (open-late limits front [] at so_far len room (ltb-false at header_limit late.0))
+    elim (chosen (nat_lt at header_limit) (refused (Truncated at)) (refused HeaderTooLong)
+    (refused e) h) [
+      | inl early ↦ told limits (front ++ []) (Truncated at) e (fault-is (Truncated at) e early.1)
+          (open-short limits front at so_far len (ltb-true at header_limit early.0))
+      | inr late ↦ told limits (front ++ []) HeaderTooLong e (fault-is HeaderTooLong e late.1)
+          (open-late limits front [] at so_far len room (ltb-false at header_limit late.0))
     ]
 
 -- ---- white space
 
-open-gap : (limits : SizeLimits) (k : ℕ) (before gap : List ℕ) → k < 3 → HasNumbers limits k before → IsGap gap → IsOpen limits (before ++ gap)
+open-gap : (limits : SizeLimits) (k : ℕ) (before gap : List ℕ) → k < 3 →
+    HasNumbers limits k before → IsGap gap → IsOpen limits (before ++ gap)
 open-gap limits k before gap few begins is_gap = record {
   numbers = k;
   few = few;
@@ -70,32 +98,53 @@ open-gap limits k before gap few begins is_gap = record {
 gap-more : (gap : List ℕ) (b : ℕ) → IsGap gap → is_white b ≡ true → IsGap (gap ++ (b ∷ []))
 gap-more gap b is_gap white = record {
   some = omega (arith, is_gap.some, length-append gap (b ∷ []));
-  white = All-append IsWhite gap (b ∷ []) is_gap.white (All-cons IsWhite b [] white (All-nil IsWhite));
+  white = All-append IsWhite gap (b ∷ []) is_gap.white
+      (All-cons IsWhite b [] white (All-nil IsWhite));
 }
 
-white-told : (limits : SizeLimits) (k at : ℕ) (before gap bytes : List ℕ) (e : Fault) → k < 3 → HasNumbers limits k before → IsGap gap → length (before ++ gap) ≡ at → at ≤ header_limit
+white-told : (limits : SizeLimits) (k at : ℕ) (before gap bytes : List ℕ) (e : FrameFault) → k < 3 →
+    HasNumbers limits k before → IsGap gap → length (before ++ gap) ≡ at → at ≤ header_limit
     → white_at at bytes ≡ Err e → HasFault limits ((before ++ gap) ++ bytes) e
 white-told limits k at before gap [] e few begins is_gap len room h =
-    open-ends limits (before ++ gap) at e (open-gap limits k before gap few begins is_gap) len room h
+    open-ends limits (before ++ gap) at e
+    (open-gap limits k before gap few begins is_gap) len room h
 white-told limits k at before gap (b ∷ bytes) e few begins is_gap len room h =
-    elim (chosen (nat_lt at header_limit) (cond (is_white b) (white_at (suc at) bytes) (Ok (b, suc at, bytes))) (Err HeaderTooLong) (Err e) h) [
+    elim (chosen (nat_lt at header_limit)
+    (cond (is_white b) (white_at (suc at) bytes) (Ok (b, suc at, bytes))) (Err HeaderTooLong)
+    (Err e) h) [
       | inr late ↦
-          told limits ((before ++ gap) ++ (b ∷ bytes)) HeaderTooLong e (fault-is HeaderTooLong e late.1)
-          (open-late limits (before ++ gap) (b ∷ bytes) at (open-gap limits k before gap few begins is_gap) len room (ltb-false at header_limit late.0))
+          told limits ((before ++ gap) ++ (b ∷ bytes)) HeaderTooLong e
+          (fault-is HeaderTooLong e late.1)
+          (open-late limits (before ++ gap) (b ∷ bytes) at
+          (open-gap limits k before gap few begins is_gap) len room
+          (ltb-false at header_limit late.0))
       | inl early ↦
           let lt : at < header_limit = ltb-true at header_limit early.0 in
-          elim (chosen (is_white b) (white_at (suc at) bytes) (Ok (b, suc at, bytes)) (Err e) early.1) [
+          elim (chosen (is_white b) (white_at (suc at) bytes) (Ok (b, suc at, bytes))
+          (Err e) early.1) [
             | inr other ↦ absurd (no-fault other.1)
             | inl more ↦
-                let longer : (before ++ (gap ++ (b ∷ []))) ++ bytes ≡ (before ++ gap) ++ (b ∷ bytes) = simp append_assoc in
-                subst (λ (t : List ℕ). HasFault limits t e) longer (white-told limits k (suc at) before (gap ++ (b ∷ [])) bytes e few begins (gap-more gap b is_gap more.0)
-                (omega (arith, len, length-append before gap, length-append before (gap ++ (b ∷ [])), length-append gap (b ∷ []))) (omega (arith, lt)) more.1)
+                let longer : (before ++ (gap ++ (b ∷ []))) ++ bytes
+                ≡ (before ++ gap) ++ (b ∷ bytes) = simp append_assoc in
+                subst (λ (t : List ℕ). HasFault limits t e) longer
+                (white-told limits k (suc at) before (gap ++ (b ∷ [])) bytes e few begins
+                (gap-more gap b is_gap more.0)
+                (omega (
+                  arith,
+                  len,
+                  length-append before gap,
+                  length-append before
+                      (gap ++ (b ∷ [])),
+                  length-append gap (b ∷ []),
+                )) (omega (arith, lt)) more.1)
           ]
     ]
 
 -- ---- digits
 
-open-digits : (limits : SizeLimits) (k : ℕ) (before gap digits : List ℕ) → k < 3 → HasNumbers limits k before → IsGap gap → All IsDigit digits → IsOpen limits (before ++ (gap ++ digits))
+open-digits : (limits : SizeLimits) (k : ℕ) (before gap digits : List ℕ) → k < 3 →
+    HasNumbers limits k before → IsGap gap → All IsDigit digits →
+    IsOpen limits (before ++ (gap ++ digits))
 open-digits limits k before gap digits few begins is_gap ascii = record {
   numbers = k;
   few = few;
@@ -108,16 +157,20 @@ open-digits limits k before gap digits few begins is_gap ascii = record {
   whole = refl;
 }
 
-digits-told : (limits : SizeLimits) (k n at : ℕ) (before gap digits bytes : List ℕ) (e : Fault) → k < 3 → HasNumbers limits k before → IsGap gap → All IsDigit digits
-    → length (before ++ (gap ++ digits)) ≡ at → at ≤ header_limit → digits_at n at bytes ≡ Err e → HasFault limits ((before ++ (gap ++ digits)) ++ bytes) e
+digits-told : (limits : SizeLimits) (k n at : ℕ) (before gap digits bytes : List ℕ)
+    (e : FrameFault) → k < 3 → HasNumbers limits k before → IsGap gap → All IsDigit digits
+    → length (before ++ (gap ++ digits)) ≡ at → at ≤ header_limit → digits_at n at bytes ≡ Err e →
+    HasFault limits ((before ++ (gap ++ digits)) ++ bytes) e
 digits-told limits k n at before gap digits [] e few begins is_gap ascii len room h =
-    open-ends limits (before ++ (gap ++ digits)) at e (open-digits limits k before gap digits few begins is_gap ascii) len room h
+    open-ends limits (before ++ (gap ++ digits)) at e
+    (open-digits limits k before gap digits few begins is_gap ascii) len room h
 digits-told limits k n at before gap digits (b ∷ bytes) e few begins is_gap ascii len room h =
     let front : List ℕ = before ++ (gap ++ digits) in
     let on : Read ℕ = digits_at (10 * n + (b - 48)) (suc at) bytes in
     let inner : Read ℕ = cond (is_ascii_digit b) on (Err (BadHeader at)) in
     let so_far = open-digits limits k before gap digits few begins is_gap ascii in
-    elim (chosen (nat_lt at header_limit) (cond (is_white b) (Ok (n, suc at, bytes)) inner) (Err HeaderTooLong) (Err e) h) [
+    elim (chosen (nat_lt at header_limit) (cond (is_white b) (Ok (n, suc at, bytes)) inner)
+    (Err HeaderTooLong) (Err e) h) [
       | inr late ↦
           told limits (front ++ (b ∷ bytes)) HeaderTooLong e (fault-is HeaderTooLong e late.1)
           (open-late limits front (b ∷ bytes) at so_far len room (ltb-false at header_limit late.0))
@@ -126,12 +179,29 @@ digits-told limits k n at before gap digits (b ∷ bytes) e few begins is_gap as
           elim (chosen (is_white b) (Ok (n, suc at, bytes)) inner (Err e) early.1) [
             | inl white ↦ absurd (no-fault white.1)
             | inr other ↦ elim (chosen (is_ascii_digit b) on (Err (BadHeader at)) (Err e) other.1) [
-              | inr bad ↦ told limits (front ++ (b ∷ bytes)) (BadHeader at) e (fault-is (BadHeader at) e bad.1) (open-bad limits front at b bytes so_far len lt other.0 bad.0)
+              | inr bad ↦ told limits (front ++ (b ∷ bytes)) (BadHeader at) e
+                  (fault-is (BadHeader at) e bad.1)
+                  (open-bad limits front at b bytes so_far len lt other.0 bad.0)
               | inl more ↦
-                  let longer : (before ++ (gap ++ (digits ++ (b ∷ [])))) ++ bytes ≡ (before ++ (gap ++ digits)) ++ (b ∷ bytes) = simp append_assoc in
-                  subst (λ (t : List ℕ). HasFault limits t e) longer (digits-told limits k (10 * n + (b - 48)) (suc at) before gap (digits ++ (b ∷ [])) bytes e few begins is_gap
-                  (All-append IsDigit digits (b ∷ []) ascii (All-cons IsDigit b [] more.0 (All-nil IsDigit)))
-                  (omega (arith, len, length-append before (gap ++ digits), length-append gap digits, length-append before (gap ++ (digits ++ (b ∷ []))), length-append gap (digits ++ (b ∷ [])), length-append digits (b ∷ [])))
+                  let longer : (before ++ (gap ++ (digits ++ (b ∷ [])))) ++ bytes
+                  ≡ (before ++ (gap ++ digits)) ++ (b ∷ bytes) = simp append_assoc in
+                  subst (λ (t : List ℕ). HasFault limits t e) longer
+                  (digits-told limits k (10 * n + (b - 48)) (suc at) before gap
+                  (digits ++ (b ∷ [])) bytes e few begins is_gap
+                  (All-append IsDigit digits (b ∷ []) ascii
+                  (All-cons IsDigit b [] more.0 (All-nil IsDigit)))
+                  (omega (
+                    arith,
+                    len,
+                    length-append before
+                        (gap ++ digits),
+                    length-append gap digits,
+                    length-append before
+                        (gap ++ (digits ++ (b ∷ []))),
+                    length-append gap
+                        (digits ++ (b ∷ [])),
+                    length-append digits (b ∷ []),
+                  ))
                   (omega (arith, lt)) more.1)
             ]
           ]
@@ -139,8 +209,9 @@ digits-told limits k n at before gap digits (b ∷ bytes) e few begins is_gap as
 
 -- ---- numbers
 
--- what was read of a header: so many numbers, and a white space byte behind them
-pub record Reached (limits : SizeLimits) (k : ℕ) (bytes : List ℕ) (at : ℕ) (rest : List ℕ) : Type 0 where
+-- what was read of a header: so many numbers, and a white space byte after them
+pub record Reached (limits : SizeLimits) (k : ℕ) (bytes : List ℕ) (at : ℕ)
+    (rest : List ℕ) : Type 0 where
   pub before : List ℕ
   pub end : ℕ
   pub begins : HasNumbers limits k before
@@ -149,36 +220,62 @@ pub record Reached (limits : SizeLimits) (k : ℕ) (bytes : List ℕ) (at : ℕ)
   pub place : at ≡ length before + 1
   pub room : at ≤ header_limit
 
-number-told : (limits : SizeLimits) (k at : ℕ) (bytes rest : List ℕ) (e : Fault) → k < 3 → Reached limits k bytes at rest → number_at at rest ≡ Err e → HasFault limits bytes e
+number-told : (limits : SizeLimits) (k at : ℕ) (bytes rest : List ℕ) (e : FrameFault) → k < 3 →
+    Reached limits k bytes at rest → number_at at rest ≡ Err e → HasFault limits bytes e
 unfolding number_at
 number-told limits k at bytes rest e few here h =
     elim (bind_err (white_at at rest) behind_white e h) [
       | inl stops ↦
-          let longer : (here.before ++ (here.end ∷ [])) ++ rest ≡ bytes = append_assoc here.before (here.end ∷ []) rest ∙ sym here.whole in
-          subst (λ (t : List ℕ). HasFault limits t e) longer (white-told limits k at here.before (here.end ∷ []) rest e few here.begins (gap-of here.end [] here.white (All-nil IsWhite))
+          let longer : (here.before ++ (here.end ∷ [])) ++ rest ≡ bytes =
+          append_assoc here.before (here.end ∷ []) rest ∙ sym here.whole in
+          subst (λ (t : List ℕ). HasFault limits t e) longer
+          (white-told limits k at here.before (here.end ∷ []) rest e few here.begins
+          (gap-of here.end [] here.white (All-nil IsWhite))
           (omega (arith, here.place, length-append here.before (here.end ∷ []))) here.room stops)
       | inr goes ↦
           let first = goes.0 in
           let white = white-found at rest first goes.1 in
           let is_gap = gap-of here.end white.gap here.white white.white in
           let len = length-append here.before (here.end ∷ white.gap) in
-          elim (chosen (is_ascii_digit first.0) (digits_at (first.0 - 48) first.1 first.2) (Err (BadHeader (first.1 - 1))) (Err e) goes.2) [
+          elim (chosen (is_ascii_digit first.0) (digits_at (first.0 - 48) first.1 first.2)
+          (Err (BadHeader (first.1 - 1))) (Err e) goes.2) [
             | inl digit ↦
-                let longer : (here.before ++ ((here.end ∷ white.gap) ++ (first.0 ∷ []))) ++ first.2 ≡ bytes =
-                simp append_assoc (sym (here.whole ∙ ap (λ (t : List ℕ). here.before ++ (here.end ∷ t)) white.parts)) in
-                subst (λ (t : List ℕ). HasFault limits t e) longer (digits-told limits k (first.0 - 48) first.1 here.before (here.end ∷ white.gap) (first.0 ∷ []) first.2 e few here.begins is_gap
+                let longer : (here.before ++ ((here.end ∷ white.gap) ++ (first.0 ∷ []))) ++ first.2
+                ≡ bytes =
+                simp append_assoc (sym (here.whole
+                ∙ ap (λ (t : List ℕ). here.before ++ (here.end ∷ t)) white.parts)) in
+                subst (λ (t : List ℕ). HasFault limits t e) longer
+                (digits-told limits k (first.0 - 48) first.1 here.before (here.end ∷ white.gap)
+                (first.0 ∷ []) first.2 e few here.begins is_gap
                 (All-cons IsDigit first.0 [] digit.0 (All-nil IsDigit))
-                (omega (arith, here.place, white.place, length-append here.before ((here.end ∷ white.gap) ++ (first.0 ∷ [])), length-append (here.end ∷ white.gap) (first.0 ∷ []))) white.room digit.1)
+                (omega (
+                  arith,
+                  here.place,
+                  white.place,
+                  length-append here.before
+                      ((here.end ∷ white.gap) ++ (first.0 ∷ [])),
+                  length-append (here.end ∷ white.gap)
+                      (first.0 ∷ []),
+                )) white.room digit.1)
             | inr bad ↦
-                let longer : (here.before ++ (here.end ∷ white.gap)) ++ (first.0 ∷ first.2) ≡ bytes =
-                append_assoc here.before (here.end ∷ white.gap) (first.0 ∷ first.2) ∙ sym (here.whole ∙ ap (λ (t : List ℕ). here.before ++ (here.end ∷ t)) white.parts) in
-                subst (λ (t : List ℕ). HasFault limits t e) longer (told limits _ (BadHeader (first.1 - 1)) e (fault-is (BadHeader (first.1 - 1)) e bad.1)
-                (open-bad limits (here.before ++ (here.end ∷ white.gap)) (first.1 - 1) first.0 first.2 (open-gap limits k here.before (here.end ∷ white.gap) few here.begins is_gap)
-                (omega (arith, here.place, white.place, len)) (omega (arith, white.room, white.place)) white.other bad.0))
+                let longer : (here.before ++ (here.end ∷ white.gap)) ++ (first.0 ∷ first.2)
+                ≡ bytes =
+                append_assoc here.before (here.end ∷ white.gap) (first.0 ∷ first.2)
+                ∙ sym (here.whole ∙ ap (λ (t : List ℕ). here.before
+                ++ (here.end ∷ t)) white.parts) in
+                subst (λ (t : List ℕ). HasFault limits t e) longer
+                (told limits _ (BadHeader (first.1 - 1)) e
+                (fault-is (BadHeader (first.1 - 1)) e bad.1)
+                (open-bad limits (here.before ++ (here.end ∷ white.gap))
+                (first.1 - 1) first.0 first.2 (open-gap limits k here.before
+                (here.end ∷ white.gap) few here.begins is_gap)
+                (omega (arith, here.place, white.place, len))
+                (omega (arith, white.room, white.place)) white.other bad.0))
           ]
     ]
 
-out-of-range : (limits : SizeLimits) (k : ℕ) (bytes : List ℕ) → k < 3 → IsOutOfRange limits k bytes → HasFault limits bytes (range_fault k)
+out-of-range : (limits : SizeLimits) (k : ℕ) (bytes : List ℕ) → k < 3 →
+    IsOutOfRange limits k bytes → HasFault limits bytes (range_fault k)
 out-of-range limits zero bytes few out = out
 out-of-range limits (suc zero) bytes few out = out
 out-of-range limits (suc (suc zero)) bytes few out = out
@@ -186,7 +283,8 @@ out-of-range limits (suc (suc (suc k))) bytes few out = absurd (omega (arith, fe
 
 -- a test and a range that agree
 abbrev pub Ranges : SizeLimits → ℕ → ℕ → ℕ → Type 0
-Ranges limits k low high = ((n : ℕ) → low ≤ n → n ≤ high → IsInRange limits k n) × ((n : ℕ) → IsInRange limits k n → (low ≤ n) × (n ≤ high))
+Ranges limits k low high = ((n : ℕ) → low ≤ n → n ≤ high → IsInRange limits k n) ×
+    ((n : ℕ) → IsInRange limits k n → (low ≤ n) × (n ≤ high))
 
 pub ranges-width : (limits : SizeLimits) → Ranges limits 0 1 limits.width
 ranges-width limits = (λ n low high. (low, high), λ n both. both)
@@ -195,23 +293,34 @@ pub ranges-height : (limits : SizeLimits) → Ranges limits 1 1 limits.height
 ranges-height limits = (λ n low high. (low, high), λ n both. both)
 
 pub ranges-maxval : (limits : SizeLimits) → Ranges limits 2 4095 4095
-ranges-maxval limits = (λ n low high. omega (arith, low, high), λ n same. (omega (arith, same), omega (arith, same)))
+ranges-maxval limits = (
+  λ n low high. omega (arith, low, high),
+  λ n same.
+      (omega (arith, same), omega (arith, same)),
+)
 
-abbrev pub judge : {A : Type 0} → ℕ → (Choice → ℕ → Result A Fault) → Choice → Result A Fault
+abbrev pub judge : {A : Type 0} → ℕ → (Choice → ℕ → Result A FrameFault) → Choice →
+    Result A FrameFault
 judge k next read = or_fault (range_fault k) read.0 >>= next read
 
-whole-number : (before : List ℕ) (end : ℕ) (gap digits : List ℕ) (behind : ℕ) (left bytes rest : List ℕ) → bytes ≡ before ++ (end ∷ rest) → rest ≡ gap ++ (digits ++ (behind ∷ left))
+whole-number : (before : List ℕ) (end : ℕ) (gap digits : List ℕ) (behind : ℕ)
+    (left bytes rest : List ℕ) → bytes ≡ before ++ (end ∷ rest) →
+    rest ≡ gap ++ (digits ++ (behind ∷ left))
     → bytes ≡ (before ++ ((end ∷ gap) ++ digits)) ++ (behind ∷ left)
-whole-number before end gap digits behind left bytes rest whole parts = rw (whole, parts) (simp append_assoc)
+whole-number before end gap digits behind left bytes rest whole parts =
+    rw (whole, parts) (simp append_assoc)
 
 -- a number that was read: in its range the header goes on, and else that is its fault
-pub record NumberBehind (limits : SizeLimits) (k : ℕ) (bytes : List ℕ) (next : Choice → ℕ → Result Sizes Fault) (e : Fault) : Type 0 where
+pub record NumberBehind (limits : SizeLimits) (k : ℕ) (bytes : List ℕ)
+    (next : Choice → ℕ → Result Sizes FrameFault) (e : FrameFault) : Type 0 where
   pub read : Choice
   pub n : ℕ
   pub on : Reached limits (suc k) bytes read.1 read.2
   pub rest : next read n ≡ Err e
 
-number-out : (limits : SizeLimits) (k at : ℕ) (bytes rest : List ℕ) (x : Point) → Reached limits k bytes at rest → NumberRead at rest x → (IsInRange limits k x.0 → ⊥) → IsOutOfRange limits k bytes
+number-out : (limits : SizeLimits) (k at : ℕ) (bytes rest : List ℕ) (x : Point) →
+    Reached limits k bytes at rest → NumberRead at rest x → (IsInRange limits k x.0 → ⊥) →
+    IsOutOfRange limits k bytes
 number-out limits k at bytes rest x here number out = (
   here.before ++ ((here.end ∷ number.gap) ++ number.digits),
   number.end,
@@ -229,14 +338,27 @@ number-out limits k at bytes rest x here number out = (
   },
   out,
   number.ends,
-  omega (arith, here.place, number.place, number.room, length-append here.before ((here.end ∷ number.gap) ++ number.digits), length-append (here.end ∷ number.gap) number.digits),
+  omega (
+    arith,
+    here.place,
+    number.place,
+    number.room,
+    length-append here.before
+        ((here.end ∷ number.gap) ++ number.digits),
+    length-append
+        (here.end ∷ number.gap) number.digits,
+  ),
 )
 
 lt-not : {a b : ℕ} → a < b → b ≤ a → ⊥
 lt-not lt le = omega (arith, lt, le)
 
-read-on : (limits : SizeLimits) (k low high at : ℕ) (bytes rest : List ℕ) (next : Choice → ℕ → Result Sizes Fault) (e : Fault) (x : Point) (a b : Bool) → k < 3 → Reached limits k bytes at rest → Ranges limits k low high
-    → NumberRead at rest x → nat_le low x.0 ≡ a → nat_le x.0 high ≡ b → judge k next (cond (a && b) (Some x.0) None, x.1, x.2) ≡ Err e → HasFault limits bytes e ⊎ NumberBehind limits k bytes next e
+read-on : (limits : SizeLimits) (k low high at : ℕ) (bytes rest : List ℕ)
+    (next : Choice → ℕ → Result Sizes FrameFault) (e : FrameFault) (x : Point) (a b : Bool) →
+    k < 3 → Reached limits k bytes at rest → Ranges limits k low high
+    → NumberRead at rest x → nat_le low x.0 ≡ a → nat_le x.0 high ≡ b →
+    judge k next (cond (a && b) (Some x.0) None, x.1, x.2) ≡ Err e →
+    HasFault limits bytes e ⊎ NumberBehind limits k bytes next e
 read-on limits k low high at bytes rest next e x true true few here ranges number above below h =
     inr (record {
       read = (Some x.0, x.1, x.2);
@@ -259,20 +381,35 @@ read-on limits k low high at bytes rest next e x true true few here ranges numbe
         );
         white = number.ends;
         whole = whole-number here.before here.end number.gap number.digits number.end x.2 bytes rest here.whole number.parts;
-        place = omega (arith, here.place, number.place, length-append here.before ((here.end ∷ number.gap) ++ number.digits), length-append (here.end ∷ number.gap) number.digits);
+        place = omega (
+          arith,
+          here.place,
+          number.place,
+          length-append here.before
+              ((here.end ∷ number.gap) ++ number.digits),
+          length-append
+              (here.end ∷ number.gap) number.digits,
+        );
         room = number.room;
       };
       rest = h;
     })
 read-on limits k low high at bytes rest next e x true false few here ranges number above below h =
-    inl (told limits bytes (range_fault k) e (fault-is (range_fault k) e h) (out-of-range limits k bytes few
-    (number-out limits k at bytes rest x here number (λ is. lt-not (leb-false x.0 high below) (ranges.1 x.0 is).1))))
+    inl (told limits bytes (range_fault k) e (fault-is (range_fault k) e h)
+    (out-of-range limits k bytes few
+    (number-out limits k at bytes rest x here number
+    (λ is. lt-not (leb-false x.0 high below) (ranges.1 x.0 is).1))))
 read-on limits k low high at bytes rest next e x false b few here ranges number above below h =
-    inl (told limits bytes (range_fault k) e (fault-is (range_fault k) e h) (out-of-range limits k bytes few
-    (number-out limits k at bytes rest x here number (λ is. lt-not (leb-false low x.0 above) (ranges.1 x.0 is).0))))
+    inl (told limits bytes (range_fault k) e (fault-is (range_fault k) e h)
+    (out-of-range limits k bytes few
+    (number-out limits k at bytes rest x here number
+    (λ is. lt-not (leb-false low x.0 above) (ranges.1 x.0 is).0))))
 
-ranged-told : (limits : SizeLimits) (k low high at : ℕ) (bytes rest : List ℕ) (next : Choice → ℕ → Result Sizes Fault) (e : Fault) → k < 3 → Reached limits k bytes at rest → Ranges limits k low high
-    → (ranged_at low high at rest >>= judge k next) ≡ Err e → HasFault limits bytes e ⊎ NumberBehind limits k bytes next e
+ranged-told : (limits : SizeLimits) (k low high at : ℕ) (bytes rest : List ℕ)
+    (next : Choice → ℕ → Result Sizes FrameFault) (e : FrameFault) → k < 3 →
+    Reached limits k bytes at rest → Ranges limits k low high
+    → (ranged_at low high at rest >>= judge k next) ≡ Err e →
+    HasFault limits bytes e ⊎ NumberBehind limits k bytes next e
 unfolding ranged_at
 ranged-told limits k low high at bytes rest next e few here ranges h =
     elim (bind_err (ranged_at low high at rest) (judge k next) e h) [
@@ -283,40 +420,61 @@ ranged-told limits k low high at bytes rest next e few here ranges h =
       | inr goes ↦
           let number = bind_ok (number_at at rest) (judged low high) goes.0 goes.1 in
           let x = number.0 in
-          let same : (let p : Choice = (cond (nat_le low x.0 && nat_le x.0 high) (Some x.0) None, x.1, x.2) in p) ≡ goes.0 =
-          value-is (cond (nat_le low x.0 && nat_le x.0 high) (Some x.0) None, x.1, x.2) goes.0 number.2 in
-          read-on limits k low high at bytes rest next e x (nat_le low x.0) (nat_le x.0 high) few here ranges (number-found at rest x number.1) refl refl
+          let same : (let p : Choice = (
+            cond (nat_le low x.0 && nat_le x.0 high)
+                (Some x.0) None,
+            x.1,
+            x.2,
+          ) in p) ≡ goes.0 =
+          value-is (
+            cond (nat_le low x.0 && nat_le x.0 high)
+                (Some x.0) None,
+            x.1,
+            x.2,
+          ) goes.0 number.2 in
+          read-on limits k low high at bytes rest next e x (nat_le low x.0)
+          (nat_le x.0 high) few here ranges (number-found at rest x number.1) refl refl
           (subst (λ (r : Choice). judge k next r ≡ Err e) (sym same) goes.2)
     ]
 
 -- ---- the header
 
-magic-told : (limits : SizeLimits) (bytes : List ℕ) (e : Fault) → magic_at 0 bytes ≡ Err e → HasFault limits bytes e
+magic-told : (limits : SizeLimits) (bytes : List ℕ) (e : FrameFault) → magic_at 0 bytes ≡ Err e →
+    HasFault limits bytes e
 unfolding magic_at
-magic-told limits [] e h = told limits [] (Truncated 0) e (fault-is (Truncated 0) e h) (refl, inl refl)
+magic-told limits [] e h = told limits [] (Truncated 0) e (fault-is (Truncated 0) e h)
+    (refl, inl refl)
 magic-told limits (p ∷ []) e h =
     elim (eqb_tells p 80) [
-      | inl is ↦ told limits (p ∷ []) (Truncated 1) e (fault-is (Truncated 1) e (rw is.0 at h)) (refl, inr (inl (rw is.1 refl)))
+      | inl is ↦ told limits (p ∷ []) (Truncated 1) e (fault-is (Truncated 1) e (rw is.0 at h))
+          (refl, inr (inl (rw is.1 refl)))
       | inr other ↦ told limits (p ∷ []) NotPpm e (fault-is NotPpm e (rw other.0 at h)) other.1
     ]
 magic-told limits (p ∷ six ∷ bytes) e h =
     elim (eqb_tells p 80) [
-      | inr other ↦ told limits (p ∷ six ∷ bytes) NotPpm e (fault-is NotPpm e (rw other.0 at h)) (λ is also. other.1 is)
+      | inr other ↦ told limits (p ∷ six ∷ bytes) NotPpm e (fault-is NotPpm e (rw other.0 at h))
+          (λ is also. other.1 is)
       | inl is ↦ elim (eqb_tells six 54) [
-        | inr other ↦ told limits (p ∷ six ∷ bytes) NotPpm e (fault-is NotPpm e (rw (is.0, other.0) at h)) (λ first also. other.1 also)
+        | inr other ↦ told limits (p ∷ six ∷ bytes) NotPpm e
+            (fault-is NotPpm e (rw (is.0, other.0) at h)) (λ first also. other.1 also)
         | inl also ↦ rw (is.1, also.1) (behind limits bytes e (rw (is.1, also.1) at h))
       ]
     ]
   where
-    behind : (limits : SizeLimits) (bytes : List ℕ) (e : Fault) → magic_at 0 (80 ∷ 54 ∷ bytes) ≡ Err e → HasFault limits (80 ∷ 54 ∷ bytes) e
-    behind limits [] e h = told limits (80 ∷ 54 ∷ []) (Truncated 2) e (fault-is (Truncated 2) e h) (refl, inr (inr (inl refl)))
+    behind : (limits : SizeLimits) (bytes : List ℕ) (e : FrameFault) →
+        magic_at 0 (80 ∷ 54 ∷ bytes) ≡ Err e → HasFault limits (80 ∷ 54 ∷ bytes) e
+    behind limits [] e h = told limits (80 ∷ 54 ∷ []) (Truncated 2) e (fault-is (Truncated 2) e h)
+        (refl, inr (inr (inl refl)))
     behind limits (gap ∷ bytes) e h =
         elim (chosen (is_white gap) (Ok (tt, 3, bytes)) (Err (BadHeader 2)) (Err e) h) [
           | inl white ↦ absurd (no-fault white.1)
-          | inr bad ↦ told limits (80 ∷ 54 ∷ gap ∷ bytes) (BadHeader 2) e (fault-is (BadHeader 2) e bad.1) (80 ∷ 54 ∷ [], gap, bytes, refl, refl, omega arith, (bad.0, inl refl))
+          | inr bad ↦ told limits (80 ∷ 54 ∷ gap ∷ bytes) (BadHeader 2) e
+              (fault-is (BadHeader 2) e bad.1)
+              (80 ∷ 54 ∷ [], gap, bytes, refl, refl, omega arith, (bad.0, inl refl))
         ]
 
-reached-magic : (limits : SizeLimits) (bytes : List ℕ) (read : Mark) → magic_at 0 bytes ≡ Ok read → Reached limits 0 bytes read.1 read.2
+reached-magic : (limits : SizeLimits) (bytes : List ℕ) (read : Mark) → magic_at 0 bytes ≡ Ok read →
+    Reached limits 0 bytes read.1 read.2
 reached-magic limits bytes read e =
     let magic = magic-found bytes read e in
     record {
@@ -329,21 +487,27 @@ reached-magic limits bytes read e =
       room = omega (arith, magic.place);
     }
 
-header-told : (limits : SizeLimits) (bytes : List ℕ) (e : Fault) → header_at limits bytes ≡ Err e → HasFault limits bytes e
+header-told : (limits : SizeLimits) (bytes : List ℕ) (e : FrameFault) →
+    header_at limits bytes ≡ Err e → HasFault limits bytes e
 unfolding header_at
 header-told limits bytes e h =
     elim (bind_err (magic_at 0 bytes) (step1 limits) e h) [
       | inl stops ↦ magic-told limits bytes e stops
-      | inr magic ↦ elim (ranged-told limits 0 1 limits.width magic.0.1 bytes magic.0.2 (step3 limits) e (omega arith) (reached-magic limits bytes magic.0 magic.1) (ranges-width limits) magic.2) [
-        | inl stops ↦ stops
-        | inr width ↦ elim (ranged-told limits 1 1 limits.height width.read.1 bytes width.read.2 (step5 width.n) e (omega arith) width.on (ranges-height limits) width.rest) [
-          | inl stops ↦ stops
-          | inr height ↦ elim (ranged-told limits 2 4095 4095 height.read.1 bytes height.read.2 (step7 width.n height.n) e (omega arith) height.on (ranges-maxval limits) height.rest) [
+      | inr magic ↦ elim (ranged-told limits 0 1 limits.width magic.0.1 bytes magic.0.2
+          (step3 limits) e (omega arith) (reached-magic limits bytes magic.0 magic.1)
+          (ranges-width limits) magic.2) [
             | inl stops ↦ stops
-            | inr maxval ↦ absurd (no-fault maxval.rest)
+            | inr width ↦ elim (ranged-told limits 1 1 limits.height width.read.1 bytes width.read.2
+                (step5 width.n) e (omega arith) width.on (ranges-height limits) width.rest) [
+                  | inl stops ↦ stops
+                  | inr height ↦ elim (ranged-told limits 2 4095 4095 height.read.1 bytes height.read.2
+                      (step7 width.n height.n) e (omega arith) height.on
+                      (ranges-maxval limits) height.rest) [
+                        | inl stops ↦ stops
+                        | inr maxval ↦ absurd (no-fault maxval.rest)
+                      ]
+                ]
           ]
-        ]
-      ]
     ]
 
 -- ---- the samples
@@ -351,7 +515,8 @@ header-told limits bytes e h =
 abbrev pub Fit : Pair → Type 0
 Fit pair = IsSample (pair_value pair)
 
-abbrev one-more : (limits : SizeLimits) (front : List ℕ) (read : HasSamples limits front) (pair : Pair) → Fit pair → HasSamples limits (front ++ pair_bytes pair)
+abbrev one-more : (limits : SizeLimits) (front : List ℕ) (read : HasSamples limits front)
+    (pair : Pair) → Fit pair → HasSamples limits (front ++ pair_bytes pair)
 one-more limits front read pair fits = record {
   parts = read.parts;
   width = read.width;
@@ -362,29 +527,49 @@ one-more limits front read pair fits = record {
   fit = All-append Fit read.samples (pair ∷ []) read.fit (All-cons Fit pair [] fits (All-nil Fit));
   whole = ap (λ (t : List ℕ). t ++ pair_bytes pair) read.whole
       ∙ append_assoc (header read.parts) (flat_map pair_bytes read.samples) (pair_bytes pair)
-      ∙ ap (λ (t : List ℕ). header read.parts ++ t) (sym (flat_map-append pair_bytes read.samples (pair ∷ [])));
+      ∙ ap (λ (t : List ℕ). header read.parts ++ t)
+      (sym (flat_map-append pair_bytes read.samples (pair ∷ [])));
 }
 
-samples-told : (limits : SizeLimits) (front : List ℕ) (read : HasSamples limits front) (n at : ℕ) (bytes : List ℕ) (e : Fault) → length read.samples + n ≡ 3 * (read.width * read.height) → length front ≡ at
+samples-told : (limits : SizeLimits) (front : List ℕ) (read : HasSamples limits front) (n at : ℕ)
+    (bytes : List ℕ) (e : FrameFault) → length read.samples + n ≡ 3 * (read.width * read.height) →
+    length front ≡ at
     → samples_at n at bytes ≡ Err e → HasFault limits (front ++ bytes) e
 samples-told limits front read zero at bytes e all len h = absurd (no-fault h)
 samples-told limits front read (suc n) at [] e all len h =
-    told limits (front ++ []) (Truncated at) e (fault-is (Truncated at) e h)
-    (omega (arith, len, length-append front []), inr (inr (inr (inr (front, [], refl, (read, omega (arith, all)), omega arith)))))
+    told limits (front ++ []) (Truncated at) e (fault-is (Truncated at) e h) (
+      omega (arith, len, length-append front []),
+      inr
+          (inr (inr (inr (front, [], refl, (read, omega (arith, all)), omega arith)))),
+    )
 samples-told limits front read (suc n) at (high ∷ []) e all len h =
-    told limits (front ++ (high ∷ [])) (Truncated (suc at)) e (fault-is (Truncated (suc at)) e h)
-    (omega (arith, len, length-append front (high ∷ [])), inr (inr (inr (inr (front, high ∷ [], refl, (read, omega (arith, all)), omega arith)))))
+    told limits (front ++ (high ∷ [])) (Truncated (suc at)) e (fault-is (Truncated (suc at)) e h) (
+      omega (arith, len, length-append front (high ∷ [])),
+      inr
+          (inr (inr (inr (front, high ∷ [], refl, (read, omega (arith, all)), omega arith)))),
+    )
 samples-told limits front read (suc n) at (high ∷ low ∷ bytes) e all len h =
     let pair : Pair = record { high = high; low = low } in
     let on = samples_at n (suc (suc at)) bytes in
-    elim (chosen (nat_le (256 * high + low) 4095) (on >>= with_sample (256 * high + low)) (Err (SampleTooLarge at)) (Err e) h) [
+    elim (chosen (nat_le (256 * high + low) 4095) (on >>= with_sample (256 * high + low))
+    (Err (SampleTooLarge at)) (Err e) h) [
       | inr large ↦
-          told limits (front ++ (high ∷ low ∷ bytes)) (SampleTooLarge at) e (fault-is (SampleTooLarge at) e large.1)
-          (front, pair, bytes, refl, len, (read, omega (arith, all)), leb-false (256 * high + low) 4095 large.0)
+          told limits (front ++ (high ∷ low ∷ bytes)) (SampleTooLarge at) e
+          (fault-is (SampleTooLarge at) e large.1) (
+            front,
+            pair,
+            bytes,
+            refl,
+            len,
+            (read, omega (arith, all)),
+            leb-false
+                (256 * high + low) 4095 large.0,
+          )
       | inl fits ↦ elim (bind_err on (with_sample (256 * high + low)) e fits.1) [
         | inr never ↦ absurd (no-fault never.2)
         | inl stops ↦
-            let count : length (read.samples ++ (pair ∷ [])) + n ≡ 3 * (read.width * read.height) = omega (arith, all, length-append read.samples (pair ∷ [])) in
+            let count : length (read.samples ++ (pair ∷ [])) + n ≡ 3 * (read.width * read.height) =
+            omega (arith, all, length-append read.samples (pair ∷ [])) in
             let more = one-more limits front read pair (leb-true (256 * high + low) 4095 fits.0) in
             subst (λ (t : List ℕ). HasFault limits t e) (append_assoc front (pair_bytes pair) bytes)
             (samples-told limits (front ++ pair_bytes pair) more n (suc (suc at)) bytes e count
@@ -398,7 +583,8 @@ pub record SamplesRead (n : ℕ) (bytes rest : List ℕ) : Type 0 where
   pub fit : All Fit samples
   pub whole : bytes ≡ flat_map pair_bytes samples ++ rest
 
-samples-found : (n at : ℕ) (bytes : List ℕ) (read : Samples) → samples_at n at bytes ≡ Ok read → SamplesRead n bytes read.1
+samples-found : (n at : ℕ) (bytes : List ℕ) (read : Samples) → samples_at n at bytes ≡ Ok read →
+    SamplesRead n bytes read.1
 samples-found zero at bytes read h =
     let same : (let p : Samples = ([], bytes) in p) ≡ read = value-is ([], bytes) read h in
     record { samples = []; count = refl; fit = All-nil Fit; whole = ap (λ (p : Samples). p.1) same }
@@ -407,23 +593,27 @@ samples-found (suc n) at (high ∷ []) read h = absurd (no-value h)
 samples-found (suc n) at (high ∷ low ∷ bytes) read h =
     let pair : Pair = record { high = high; low = low } in
     let on = samples_at n (suc (suc at)) bytes in
-    elim (chosen (nat_le (256 * high + low) 4095) (on >>= with_sample (256 * high + low)) (Err (SampleTooLarge at)) (Ok read) h) [
+    elim (chosen (nat_le (256 * high + low) 4095) (on >>= with_sample (256 * high + low))
+    (Err (SampleTooLarge at)) (Ok read) h) [
       | inr large ↦ absurd (no-value large.1)
       | inl fits ↦
           let rest = bind_ok on (with_sample (256 * high + low)) read fits.1 in
           let found = samples-found n (suc (suc at)) bytes rest.0 rest.1 in
-          let same : (let p : Samples = ((256 * high + low) ∷ rest.0.0, rest.0.1) in p) ≡ read = value-is ((256 * high + low) ∷ rest.0.0, rest.0.1) read rest.2 in
+          let same : (let p : Samples = ((256 * high + low) ∷ rest.0.0, rest.0.1) in p) ≡ read =
+          value-is ((256 * high + low) ∷ rest.0.0, rest.0.1) read rest.2 in
           subst (λ (p : Samples). SamplesRead (suc n) (high ∷ low ∷ bytes) p.1) same (record {
             samples = pair ∷ found.samples;
             count = ap (λ (k : ℕ). suc k) found.count;
-            fit = All-cons Fit pair found.samples (leb-true (256 * high + low) 4095 fits.0) found.fit;
+            fit = All-cons Fit pair found.samples
+                (leb-true (256 * high + low) 4095 fits.0) found.fit;
             whole = ap (λ (t : List ℕ). high ∷ low ∷ t) found.whole;
           })
     ]
 
 -- ---- the file
 
-abbrev no-samples : (limits : SizeLimits) (bytes : List ℕ) (read : Sizes) → (head : HeaderRead limits bytes read) → HasSamples limits (header head.parts)
+abbrev no-samples : (limits : SizeLimits) (bytes : List ℕ) (read : Sizes) →
+    (head : HeaderRead limits bytes read) → HasSamples limits (header head.parts)
 no-samples limits bytes read head = record {
   parts = head.parts;
   width = read.0.0;
@@ -435,17 +625,22 @@ no-samples limits bytes read head = record {
   whole = sym (append-nil (header head.parts));
 }
 
-end-told : (limits : SizeLimits) (front rest : List ℕ) (p : Picture) (e : Fault) → HasAllSamples limits front → ended p rest ≡ Err e → HasFault limits (front ++ rest) e
+end-told : (limits : SizeLimits) (front rest : List ℕ) (p : Picture) (e : FrameFault) →
+    HasAllSamples limits front → ended p rest ≡ Err e → HasFault limits (front ++ rest) e
 end-told limits front [] p e all h = absurd (no-fault h)
-end-told limits front (b ∷ rest) p e all h = told limits (front ++ (b ∷ rest)) TrailingBytes e (fault-is TrailingBytes e h) (front, b, rest, refl, all)
+end-told limits front (b ∷ rest) p e all h =
+    told limits (front ++ (b ∷ rest)) TrailingBytes e (fault-is TrailingBytes e h)
+    (front, b, rest, refl, all)
 
--- a header and all its samples, and what is left behind them
+-- a header and all its samples, and what is left after them
 pub record AllRead (limits : SizeLimits) (bytes rest : List ℕ) : Type 0 where
   pub front : List ℕ
   pub all : HasAllSamples limits front
   pub whole : bytes ≡ front ++ rest
 
-all-read : (limits : SizeLimits) (bytes : List ℕ) (read : Sizes) (last : Samples) → header_at limits bytes ≡ Ok read → samples_at (3 * (read.0.0 * read.0.1)) read.1 read.2 ≡ Ok last → AllRead limits bytes last.1
+all-read : (limits : SizeLimits) (bytes : List ℕ) (read : Sizes) (last : Samples) →
+    header_at limits bytes ≡ Ok read →
+    samples_at (3 * (read.0.0 * read.0.1)) read.1 read.2 ≡ Ok last → AllRead limits bytes last.1
 all-read limits bytes read last head_is samples_are =
     let head = header-found limits bytes read head_is in
     let found = samples-found (3 * (read.0.0 * read.0.1)) read.1 read.2 last samples_are in
@@ -462,10 +657,12 @@ all-read limits bytes read last head_is samples_are =
     record {
       front = header head.parts ++ flat_map pair_bytes found.samples;
       all = (has, found.count);
-      whole = head.whole ∙ ap (λ (t : List ℕ). header head.parts ++ t) found.whole ∙ sym (append_assoc (header head.parts) (flat_map pair_bytes found.samples) last.1);
+      whole = head.whole ∙ ap (λ (t : List ℕ). header head.parts ++ t) found.whole
+          ∙ sym (append_assoc (header head.parts) (flat_map pair_bytes found.samples) last.1);
     }
 
-pub frame-told : (limits : SizeLimits) (bytes : List ℕ) (e : Fault) → frame_of limits bytes ≡ Err e → HasFault limits bytes e
+pub frame-told : (limits : SizeLimits) (bytes : List ℕ) (e : FrameFault) →
+    frame_of limits bytes ≡ Err e → HasFault limits bytes e
 unfolding frame_of
 frame-told limits bytes e h =
     elim (bind_err (header_at limits bytes) behind_header e h) [
@@ -477,10 +674,14 @@ frame-told limits bytes e h =
           elim (bind_err (samples_at total read.1 read.2) (behind_samples read.0) e goes.2) [
             | inl stops ↦
                 subst (λ (t : List ℕ). HasFault limits t e) (sym head.whole)
-                (samples-told limits (header head.parts) (no-samples limits bytes read head) total read.1 read.2 e (zero-add total) (sym head.place) stops)
+                (samples-told limits (header head.parts)
+                (no-samples limits bytes read head) total read.1 read.2 e (zero-add total)
+                (sym head.place) stops)
             | inr last ↦
                 let found = all-read limits bytes read last.0 goes.1 last.1 in
-                subst (λ (t : List ℕ). HasFault limits t e) (sym found.whole) (end-told limits found.front last.0.1 (picture read.0 last.0.0) e found.all last.2)
+                subst (λ (t : List ℕ). HasFault limits t e) (sym found.whole)
+                (end-told limits found.front last.0.1
+                (picture read.0 last.0.0) e found.all last.2)
           ]
     ]
 
@@ -488,15 +689,18 @@ nothing-left : (rest : List ℕ) (p q : Picture) → ended p rest ≡ Ok q → r
 nothing-left [] p q h = refl
 nothing-left (b ∷ rest) p q h = absurd (no-value h)
 
-pub all-told : (limits : SizeLimits) (bytes : List ℕ) (p : Picture) → frame_of limits bytes ≡ Ok p → HasAllSamples limits bytes
+pub all-told : (limits : SizeLimits) (bytes : List ℕ) (p : Picture) → frame_of limits bytes ≡ Ok p →
+    HasAllSamples limits bytes
 unfolding frame_of
 all-told limits bytes p h =
     let head = bind_ok (header_at limits bytes) behind_header p h in
     let read = head.0 in
-    let last = bind_ok (samples_at (3 * (read.0.0 * read.0.1)) read.1 read.2) (behind_samples read.0) p head.2 in
+    let last = bind_ok (samples_at (3 * (read.0.0 * read.0.1)) read.1 read.2)
+    (behind_samples read.0) p head.2 in
     let found = all-read limits bytes read last.0 head.1 last.1 in
     let none : last.0.1 ≡ [] = nothing-left last.0.1 (picture read.0 last.0.0) p last.2 in
-    let same : found.front ≡ bytes = sym (found.whole ∙ ap (λ (t : List ℕ). found.front ++ t) none ∙ append-nil found.front) in
+    let same : found.front ≡ bytes =
+    sym (found.whole ∙ ap (λ (t : List ℕ). found.front ++ t) none ∙ append-nil found.front) in
     subst (λ (t : List ℕ). HasAllSamples limits t) same found.all
 
 picture-is : (p q : Picture) (rest : List ℕ) → ended p rest ≡ Ok q → p ≡ q
@@ -504,11 +708,15 @@ picture-is p q [] h = value-is p q h
 picture-is p q (b ∷ rest) h = absurd (no-value h)
 
 -- a picture that is read has sides within the limits
-pub frame-sizes : (limits : SizeLimits) (bytes : List ℕ) (p : Picture) → frame_of limits bytes ≡ Ok p → IsWithin limits p.width p.height
+pub frame-sizes : (limits : SizeLimits) (bytes : List ℕ) (p : Picture) →
+    frame_of limits bytes ≡ Ok p → IsWithin limits p.width p.height
 unfolding frame_of
 frame-sizes limits bytes p h =
     let head = bind_ok (header_at limits bytes) behind_header p h in
     let read = head.0 in
-    let last = bind_ok (samples_at (3 * (read.0.0 * read.0.1)) read.1 read.2) (behind_samples read.0) p head.2 in
-    let same : picture read.0 last.0.0 ≡ p = picture-is (picture read.0 last.0.0) p last.0.1 last.2 in
-    subst (λ (q : Picture). IsWithin limits q.width q.height) same (header-found limits bytes read head.1).within
+    let last = bind_ok (samples_at (3 * (read.0.0 * read.0.1)) read.1 read.2)
+    (behind_samples read.0) p head.2 in
+    let same : picture read.0 last.0.0 ≡ p =
+    picture-is (picture read.0 last.0.0) p last.0.1 last.2 in
+    subst (λ (q : Picture). IsWithin limits q.width q.height) same
+    (header-found limits bytes read head.1).within

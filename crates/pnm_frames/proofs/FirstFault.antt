@@ -1,18 +1,30 @@
--- Which fault is the first: the shortest front of a file that has one other than a missing byte decides, whatever follows.
-use Rattle.std.proofs.Common.{◌≡◌, ℕ, zero, suc, ◌+◌, ◌*◌, ◌-◌, Bool, true, false, cond, eqb, List, [], ◌∷◌, ◌++◌, length, Option, Some, None, Result, Ok, Err, refl, ap, arith}
+-- Which fault is the first: the shortest prefix of a file that has one other than a missing byte
+-- decides, whatever follows.
+use Rattle.std.proofs.Common.{◌≡◌, ℕ, zero, suc, ◌+◌, ◌*◌, ◌-◌, Bool, true, false, cond, eqb, List}
+use Rattle.std.proofs.Common.{[], ◌∷◌, ◌++◌, length, Option, Some, None, Result, Ok, Err, refl, ap}
+use Rattle.std.proofs.Common.{arith}
 use Rattle.std.specs.Prelude.{nat_lt, nat_le}
 use Rattle.std.specs.Char.{is_ascii_digit}
 use Rattle.std.proofs.Math.Dec.{leb}
 use Rattle.pnm_frames.specs.declared.limits.SizeLimits.{SizeLimits}
-use Rattle.pnm_frames.specs.Fault.{Fault, NotPpm, BadHeader, HeaderTooLong, WrongMaxval, WidthOutOfRange, HeightOutOfRange, SampleTooLarge, Truncated, TrailingBytes, ◌>>=◌}
+use Rattle.pnm_frames.specs.declared.fault.FrameFault.{FrameFault}
+use Rattle.pnm_frames.specs.declared.fault.FrameFault.TheVariants.{NotPpm, BadHeader, HeaderTooLong}
+use Rattle.pnm_frames.specs.declared.fault.FrameFault.TheVariants.{WrongMaxval, WidthOutOfRange}
+use Rattle.pnm_frames.specs.declared.fault.FrameFault.TheVariants.{HeightOutOfRange, SampleTooLarge}
+use Rattle.pnm_frames.specs.declared.fault.FrameFault.TheVariants.{Truncated, TrailingBytes}
+use Rattle.pnm_frames.specs.Fault.{◌>>=◌}
 use Rattle.pnm_frames.specs.FirstFault.{Stands, Foretells}
 use Rattle.pnm_frames.specs.Grammar.{is_white, header_limit}
 use Rattle.pnm_frames.specs.Picture.{Picture}
-use Rattle.pnm_frames.specs.Reading.{Read, byte_at, magic_at, white_at, digits_at, number_at, ranged_at, or_fault, header_at, samples_at, plane_of, ended, frame_of}
-use Rattle.pnm_frames.proofs.Laws.{Sizes, behind_white, judged, step1, step2, step3, step4, step5, step6, step7}
+use Rattle.pnm_frames.specs.Reading.{Read, byte_at, magic_at, white_at, digits_at, number_at}
+use Rattle.pnm_frames.specs.Reading.{ranged_at, or_fault, header_at, samples_at, plane_of, ended}
+use Rattle.pnm_frames.specs.Reading.{frame_of}
+use Rattle.pnm_frames.proofs.Laws.{Sizes, behind_white, judged, step1, step2, step3, step4, step5}
+use Rattle.pnm_frames.proofs.Laws.{step6, step7}
 use Rattle.pnm_frames.proofs.Files.{empty}
 
-stands-on : {X Y : Type 0} (e : Fault) (whole : ℕ) (l : Result X Fault) (f : X → Result Y Fault) → Stands e whole l → Stands e whole (l >>= f)
+stands-on : {X Y : Type 0} (e : FrameFault) (whole : ℕ) (l : Result X FrameFault)
+    (f : X → Result Y FrameFault) → Stands e whole l → Stands e whole (l >>= f)
 stands-on (Truncated seen) whole l f h = h
 stands-on NotPpm whole l f h = rw h refl
 stands-on (BadHeader place) whole l f h = rw h refl
@@ -28,79 +40,115 @@ stands-on TrailingBytes whole l f h = rw h refl
 abbrev Point : Type 0 → Type 0
 Point A = A × ℕ × List ℕ
 
--- With more bytes behind, a part reads the same and leaves them, or its fault stands.
-abbrev Goes : {A : Type 0} → ℕ → List ℕ → Result (A × ℕ × List ℕ) Fault → Result (A × ℕ × List ℕ) Fault → Type 0
-Goes whole more (Ok read) longer = (longer ≡ Ok (read.0, read.1, read.2 ++ more)) × (read.1 + length read.2 ≡ whole)
+-- With more bytes after it, a part reads the same and leaves them, or its fault stands.
+abbrev Goes : {A : Type 0} → ℕ → List ℕ → Result (A × ℕ × List ℕ) FrameFault →
+    Result (A × ℕ × List ℕ) FrameFault → Type 0
+Goes whole more (Ok read) longer =
+    (longer ≡ Ok (read.0, read.1, read.2 ++ more)) × (read.1 + length read.2 ≡ whole)
 Goes whole more (Err e) longer = Stands e whole longer
 
-goes-then : {A B : Type 0} (whole : ℕ) (more : List ℕ) (r l : Read A) (f : Point A → Read B) → Goes whole more r l
-    → ((read : Point A) → read.1 + length read.2 ≡ whole → Goes whole more (f read) (f (read.0, read.1, read.2 ++ more)))
+goes-then : {A B : Type 0} (whole : ℕ) (more : List ℕ) (r l : Read A) (f : Point A → Read B) →
+    Goes whole more r l
+    → ((read : Point A) → read.1 + length read.2 ≡ whole →
+    Goes whole more (f read) (f (read.0, read.1, read.2 ++ more)))
     → Goes whole more (r >>= f) (l >>= f)
 goes-then whole more (Ok read) l f goes next = rw goes.0 (next read goes.1)
 goes-then whole more (Err e) l f goes next = stands-on e whole l f goes
 
-goes-choice : {A : Type 0} (whole : ℕ) (more : List ℕ) (t : Bool) (x y u v : Read A) → Goes whole more x u → Goes whole more y v → Goes whole more (cond t x y) (cond t u v)
+goes-choice : {A : Type 0} (whole : ℕ) (more : List ℕ) (t : Bool) (x y u v : Read A) →
+    Goes whole more x u → Goes whole more y v → Goes whole more (cond t x y) (cond t u v)
 goes-choice whole more true x y u v left right = left
 goes-choice whole more false x y u v left right = right
 
 -- at the end of the file
-goes-end : {A : Type 0} (whole at : ℕ) (more : List ℕ) (t : Bool) (longer : Read A) → at + 0 ≡ whole → (t ≡ false → longer ≡ Err HeaderTooLong)
+goes-end : {A : Type 0} (whole at : ℕ) (more : List ℕ) (t : Bool) (longer : Read A) →
+    at + 0 ≡ whole → (t ≡ false → longer ≡ Err HeaderTooLong)
     → Goes whole more (cond t (Err (Truncated at)) (Err HeaderTooLong)) longer
 goes-end whole at more true longer len late = omega (arith, len)
 goes-end whole at more false longer len late = late refl
 
-late-byte : (at : ℕ) (more : List ℕ) → nat_lt at header_limit ≡ false → byte_at at more ≡ Err HeaderTooLong
+late-byte : (at : ℕ) (more : List ℕ) → nat_lt at header_limit ≡ false →
+    byte_at at more ≡ Err HeaderTooLong
 late-byte at [] late = rw late refl
 late-byte at (b ∷ more) late = rw late refl
 
-goes-byte : (whole at : ℕ) (bytes more : List ℕ) → at + length bytes ≡ whole → Goes whole more (byte_at at bytes) (byte_at at (bytes ++ more))
-goes-byte whole at [] more len = goes-end whole at more (nat_lt at header_limit) (byte_at at more) len (late-byte at more)
+goes-byte : (whole at : ℕ) (bytes more : List ℕ) → at + length bytes ≡ whole →
+    Goes whole more (byte_at at bytes) (byte_at at (bytes ++ more))
+goes-byte whole at [] more len =
+    goes-end whole at more (nat_lt at header_limit) (byte_at at more) len (late-byte at more)
 goes-byte whole at (b ∷ bytes) more len =
-    goes-choice whole more (nat_lt at header_limit) (Ok (b, suc at, bytes)) (Err HeaderTooLong) (Ok (b, suc at, bytes ++ more)) (Err HeaderTooLong) (refl, omega (arith, len)) refl
+    goes-choice whole more (nat_lt at header_limit) (Ok (b, suc at, bytes)) (Err HeaderTooLong)
+    (Ok (b, suc at, bytes ++ more)) (Err HeaderTooLong) (refl, omega (arith, len)) refl
 
-late-white : (at : ℕ) (more : List ℕ) → nat_lt at header_limit ≡ false → white_at at more ≡ Err HeaderTooLong
+late-white : (at : ℕ) (more : List ℕ) → nat_lt at header_limit ≡ false →
+    white_at at more ≡ Err HeaderTooLong
 late-white at [] late = rw late refl
 late-white at (b ∷ more) late = rw late refl
 
-goes-white : (whole at : ℕ) (bytes more : List ℕ) → at + length bytes ≡ whole → Goes whole more (white_at at bytes) (white_at at (bytes ++ more))
-goes-white whole at [] more len = goes-end whole at more (nat_lt at header_limit) (white_at at more) len (late-white at more)
+goes-white : (whole at : ℕ) (bytes more : List ℕ) → at + length bytes ≡ whole →
+    Goes whole more (white_at at bytes) (white_at at (bytes ++ more))
+goes-white whole at [] more len =
+    goes-end whole at more (nat_lt at header_limit) (white_at at more) len (late-white at more)
 goes-white whole at (b ∷ bytes) more len =
     let on = goes-white whole (suc at) bytes more (omega (arith, len)) in
-    goes-choice whole more (nat_lt at header_limit) (cond (is_white b) (white_at (suc at) bytes) (Ok (b, suc at, bytes))) (Err HeaderTooLong)
-    (cond (is_white b) (white_at (suc at) (bytes ++ more)) (Ok (b, suc at, bytes ++ more))) (Err HeaderTooLong)
-    (goes-choice whole more (is_white b) (white_at (suc at) bytes) (Ok (b, suc at, bytes)) (white_at (suc at) (bytes ++ more)) (Ok (b, suc at, bytes ++ more)) on (refl, omega (arith, len)))
+    goes-choice whole more (nat_lt at header_limit)
+    (cond (is_white b) (white_at (suc at) bytes) (Ok (b, suc at, bytes))) (Err HeaderTooLong)
+    (cond (is_white b) (white_at (suc at) (bytes ++ more)) (Ok (b, suc at, bytes ++ more)))
+    (Err HeaderTooLong)
+    (goes-choice whole more (is_white b) (white_at (suc at) bytes) (Ok (b, suc at, bytes))
+    (white_at (suc at) (bytes ++ more)) (Ok (b, suc at, bytes ++ more)) on
+    (refl, omega (arith, len)))
     refl
 
-late-digits : (n at : ℕ) (more : List ℕ) → nat_lt at header_limit ≡ false → digits_at n at more ≡ Err HeaderTooLong
+late-digits : (n at : ℕ) (more : List ℕ) → nat_lt at header_limit ≡ false →
+    digits_at n at more ≡ Err HeaderTooLong
 late-digits n at [] late = rw late refl
 late-digits n at (b ∷ more) late = rw late refl
 
-goes-digits : (whole n at : ℕ) (bytes more : List ℕ) → at + length bytes ≡ whole → Goes whole more (digits_at n at bytes) (digits_at n at (bytes ++ more))
-goes-digits whole n at [] more len = goes-end whole at more (nat_lt at header_limit) (digits_at n at more) len (late-digits n at more)
+goes-digits : (whole n at : ℕ) (bytes more : List ℕ) → at + length bytes ≡ whole →
+    Goes whole more (digits_at n at bytes) (digits_at n at (bytes ++ more))
+goes-digits whole n at [] more len =
+    goes-end whole at more (nat_lt at header_limit) (digits_at n at more) len
+    (late-digits n at more)
 goes-digits whole n at (b ∷ bytes) more len =
     let on = goes-digits whole (10 * n + (b - 48)) (suc at) bytes more (omega (arith, len)) in
     let number = digits_at (10 * n + (b - 48)) (suc at) in
-    let inner = goes-choice whole more (is_ascii_digit b) (number bytes) (Err (BadHeader at)) (number (bytes ++ more)) (Err (BadHeader at)) on refl in
-    goes-choice whole more (nat_lt at header_limit) (cond (is_white b) (Ok (n, suc at, bytes)) (cond (is_ascii_digit b) (number bytes) (Err (BadHeader at)))) (Err HeaderTooLong)
-    (cond (is_white b) (Ok (n, suc at, bytes ++ more)) (cond (is_ascii_digit b) (number (bytes ++ more)) (Err (BadHeader at)))) (Err HeaderTooLong)
-    (goes-choice whole more (is_white b) (Ok (n, suc at, bytes)) (cond (is_ascii_digit b) (number bytes) (Err (BadHeader at)))
-    (Ok (n, suc at, bytes ++ more)) (cond (is_ascii_digit b) (number (bytes ++ more)) (Err (BadHeader at))) (refl, omega (arith, len)) inner)
+    let inner = goes-choice whole more (is_ascii_digit b) (number bytes) (Err (BadHeader at))
+    (number (bytes ++ more)) (Err (BadHeader at)) on refl in
+    goes-choice whole more (nat_lt at header_limit)
+    (cond (is_white b) (Ok (n, suc at, bytes))
+    (cond (is_ascii_digit b) (number bytes) (Err (BadHeader at)))) (Err HeaderTooLong)
+    (cond (is_white b) (Ok (n, suc at, bytes ++ more))
+    (cond (is_ascii_digit b) (number (bytes ++ more)) (Err (BadHeader at)))) (Err HeaderTooLong)
+    (goes-choice whole more (is_white b) (Ok (n, suc at, bytes))
+    (cond (is_ascii_digit b) (number bytes) (Err (BadHeader at)))
+    (Ok (n, suc at, bytes ++ more))
+    (cond (is_ascii_digit b) (number (bytes ++ more)) (Err (BadHeader at)))
+    (refl, omega (arith, len)) inner)
     refl
 
-goes-number : (whole at : ℕ) (bytes more : List ℕ) → at + length bytes ≡ whole → Goes whole more (number_at at bytes) (number_at at (bytes ++ more))
+goes-number : (whole at : ℕ) (bytes more : List ℕ) → at + length bytes ≡ whole →
+    Goes whole more (number_at at bytes) (number_at at (bytes ++ more))
 unfolding number_at
 goes-number whole at bytes more len =
-    goes-then whole more (white_at at bytes) (white_at at (bytes ++ more)) behind_white (goes-white whole at bytes more len)
-    (λ first place. goes-choice whole more (is_ascii_digit first.0) (digits_at (first.0 - 48) first.1 first.2) (Err (BadHeader (first.1 - 1)))
-    (digits_at (first.0 - 48) first.1 (first.2 ++ more)) (Err (BadHeader (first.1 - 1))) (goes-digits whole (first.0 - 48) first.1 first.2 more place) refl)
+    goes-then whole more (white_at at bytes) (white_at at (bytes ++ more)) behind_white
+    (goes-white whole at bytes more len)
+    (λ first place. goes-choice whole more (is_ascii_digit first.0)
+    (digits_at (first.0 - 48) first.1 first.2) (Err (BadHeader (first.1 - 1)))
+    (digits_at (first.0 - 48) first.1 (first.2 ++ more)) (Err (BadHeader (first.1 - 1)))
+    (goes-digits whole (first.0 - 48) first.1 first.2 more place) refl)
 
-goes-ranged : (whole low high at : ℕ) (bytes more : List ℕ) → at + length bytes ≡ whole → Goes whole more (ranged_at low high at bytes) (ranged_at low high at (bytes ++ more))
+goes-ranged : (whole low high at : ℕ) (bytes more : List ℕ) → at + length bytes ≡ whole →
+    Goes whole more (ranged_at low high at bytes) (ranged_at low high at (bytes ++ more))
 unfolding ranged_at
 goes-ranged whole low high at bytes more len =
-    goes-then whole more (number_at at bytes) (number_at at (bytes ++ more)) (judged low high) (goes-number whole at bytes more len) (λ number place. (refl, place))
+    goes-then whole more (number_at at bytes) (number_at at (bytes ++ more)) (judged low high)
+    (goes-number whole at bytes more len) (λ number place. (refl, place))
 
-goes-or : {A : Type 0} (whole : ℕ) (more : List ℕ) (fault : Fault) (o : Option ℕ) (f g : ℕ → Read A) → Goes {A = A} whole more (Err fault) (Err fault)
-    → ((n : ℕ) → Goes whole more (f n) (g n)) → Goes whole more (or_fault fault o >>= f) (or_fault fault o >>= g)
+goes-or : {A : Type 0} (whole : ℕ) (more : List ℕ) (fault : FrameFault) (o : Option ℕ)
+    (f g : ℕ → Read A) → Goes {A = A} whole more (Err fault) (Err fault)
+    → ((n : ℕ) → Goes whole more (f n) (g n)) →
+    Goes whole more (or_fault fault o >>= f) (or_fault fault o >>= g)
 goes-or whole more fault None f g stands next = stands
 goes-or whole more fault (Some n) f g stands next = next n
 
@@ -118,93 +166,131 @@ behind_second second = letter 54 second >>= behind_six second
 abbrev behind_first : Point ℕ → Read (Unit {0})
 behind_first first = letter 80 first >>= behind_second
 
-goes-letter : (whole wanted : ℕ) (more : List ℕ) (first : Point ℕ) → first.1 + length first.2 ≡ whole → Goes whole more (letter wanted first) (letter wanted (first.0, first.1, first.2 ++ more))
+goes-letter : (whole wanted : ℕ) (more : List ℕ) (first : Point ℕ) →
+    first.1 + length first.2 ≡ whole →
+    Goes whole more (letter wanted first) (letter wanted (first.0, first.1, first.2 ++ more))
 goes-letter whole wanted more first place =
-    goes-choice whole more (eqb first.0 wanted) (byte_at first.1 first.2) (Err NotPpm) (byte_at first.1 (first.2 ++ more)) (Err NotPpm) (goes-byte whole first.1 first.2 more place) refl
+    goes-choice whole more (eqb first.0 wanted) (byte_at first.1 first.2) (Err NotPpm)
+    (byte_at first.1 (first.2 ++ more)) (Err NotPpm)
+    (goes-byte whole first.1 first.2 more place) refl
 
-goes-magic : (whole at : ℕ) (bytes more : List ℕ) → at + length bytes ≡ whole → Goes whole more (magic_at at bytes) (magic_at at (bytes ++ more))
+goes-magic : (whole at : ℕ) (bytes more : List ℕ) → at + length bytes ≡ whole →
+    Goes whole more (magic_at at bytes) (magic_at at (bytes ++ more))
 unfolding magic_at
 goes-magic whole at bytes more len =
-    goes-then whole more (byte_at at bytes) (byte_at at (bytes ++ more)) behind_first (goes-byte whole at bytes more len)
-    (λ first here. goes-then whole more (letter 80 first) (letter 80 (first.0, first.1, first.2 ++ more)) behind_second (goes-letter whole 80 more first here)
-    (λ second there. goes-then whole more (letter 54 second) (letter 54 (second.0, second.1, second.2 ++ more)) (behind_six second) (goes-letter whole 54 more second there)
-    (λ gap place. goes-choice whole more (is_white gap.0) (Ok (empty, gap.1, gap.2)) (Err (BadHeader second.1)) (Ok (empty, gap.1, gap.2 ++ more)) (Err (BadHeader second.1)) (refl, place) refl)))
+    goes-then whole more (byte_at at bytes) (byte_at at (bytes ++ more)) behind_first
+    (goes-byte whole at bytes more len)
+    (λ first here. goes-then whole more (letter 80 first)
+    (letter 80 (first.0, first.1, first.2 ++ more)) behind_second
+    (goes-letter whole 80 more first here)
+    (λ second there. goes-then whole more (letter 54 second)
+    (letter 54 (second.0, second.1, second.2 ++ more)) (behind_six second)
+    (goes-letter whole 54 more second there)
+    (λ gap place. goes-choice whole more (is_white gap.0) (Ok (empty, gap.1, gap.2))
+    (Err (BadHeader second.1)) (Ok (empty, gap.1, gap.2 ++ more)) (Err (BadHeader second.1))
+    (refl, place) refl)))
 
 -- ---- the header
 
 abbrev longer : {A : Type 0} → List ℕ → Point A → Point A
 longer more read = (read.0, read.1, read.2 ++ more)
 
-goes-step6 : (whole w h : ℕ) (more : List ℕ) (maxval : Point (Option ℕ)) → maxval.1 + length maxval.2 ≡ whole → Goes whole more (step6 w h maxval) (step6 w h (longer more maxval))
+goes-step6 : (whole w h : ℕ) (more : List ℕ) (maxval : Point (Option ℕ)) →
+    maxval.1 + length maxval.2 ≡ whole →
+    Goes whole more (step6 w h maxval) (step6 w h (longer more maxval))
 goes-step6 whole w h more maxval place =
-    goes-or whole more WrongMaxval maxval.0 (step7 w h maxval) (step7 w h (longer more maxval)) refl (λ m. (refl, place))
+    goes-or whole more WrongMaxval maxval.0 (step7 w h maxval) (step7 w h (longer more maxval)) refl
+    (λ m. (refl, place))
 
-goes-step4 : (whole w : ℕ) (more : List ℕ) (height : Point (Option ℕ)) → height.1 + length height.2 ≡ whole → Goes whole more (step4 w height) (step4 w (longer more height))
+goes-step4 : (whole w : ℕ) (more : List ℕ) (height : Point (Option ℕ)) →
+    height.1 + length height.2 ≡ whole →
+    Goes whole more (step4 w height) (step4 w (longer more height))
 goes-step4 whole w more height place =
-    goes-or whole more HeightOutOfRange height.0 (step5 w height) (step5 w (longer more height)) refl
-    (λ h. goes-then whole more (ranged_at 4095 4095 height.1 height.2) (ranged_at 4095 4095 height.1 (height.2 ++ more)) (step6 w h)
-    (goes-ranged whole 4095 4095 height.1 height.2 more place) (λ maxval here. goes-step6 whole w h more maxval here))
+    goes-or whole more HeightOutOfRange height.0 (step5 w height)
+    (step5 w (longer more height)) refl
+    (λ h. goes-then whole more (ranged_at 4095 4095 height.1 height.2)
+    (ranged_at 4095 4095 height.1 (height.2 ++ more)) (step6 w h)
+    (goes-ranged whole 4095 4095 height.1 height.2 more place)
+    (λ maxval here. goes-step6 whole w h more maxval here))
 
-goes-step2 : (limits : SizeLimits) (whole : ℕ) (more : List ℕ) (width : Point (Option ℕ)) → width.1 + length width.2 ≡ whole → Goes whole more (step2 limits width) (step2 limits (longer more width))
+goes-step2 : (limits : SizeLimits) (whole : ℕ) (more : List ℕ) (width : Point (Option ℕ)) →
+    width.1 + length width.2 ≡ whole →
+    Goes whole more (step2 limits width) (step2 limits (longer more width))
 goes-step2 limits whole more width place =
-    goes-or whole more WidthOutOfRange width.0 (step3 limits width) (step3 limits (longer more width)) refl
-    (λ w. goes-then whole more (ranged_at 1 limits.height width.1 width.2) (ranged_at 1 limits.height width.1 (width.2 ++ more)) (step4 w)
-    (goes-ranged whole 1 limits.height width.1 width.2 more place) (λ height here. goes-step4 whole w more height here))
+    goes-or whole more WidthOutOfRange width.0 (step3 limits width)
+    (step3 limits (longer more width)) refl
+    (λ w. goes-then whole more (ranged_at 1 limits.height width.1 width.2)
+    (ranged_at 1 limits.height width.1 (width.2 ++ more)) (step4 w)
+    (goes-ranged whole 1 limits.height width.1 width.2 more place)
+    (λ height here. goes-step4 whole w more height here))
 
-goes-header : (limits : SizeLimits) (bytes more : List ℕ) → Goes (length bytes) more (header_at limits bytes) (header_at limits (bytes ++ more))
+goes-header : (limits : SizeLimits) (bytes more : List ℕ) →
+    Goes (length bytes) more (header_at limits bytes) (header_at limits (bytes ++ more))
 unfolding header_at
 goes-header limits bytes more =
     let whole : ℕ = length bytes in
-    goes-then whole more (magic_at 0 bytes) (magic_at 0 (bytes ++ more)) (step1 limits) (goes-magic whole 0 bytes more (omega arith))
-    (λ magic here. goes-then whole more (ranged_at 1 limits.width magic.1 magic.2) (ranged_at 1 limits.width magic.1 (magic.2 ++ more)) (step2 limits)
-    (goes-ranged whole 1 limits.width magic.1 magic.2 more here) (λ width place. goes-step2 limits whole more width place))
+    goes-then whole more (magic_at 0 bytes) (magic_at 0 (bytes ++ more)) (step1 limits)
+    (goes-magic whole 0 bytes more (omega arith))
+    (λ magic here. goes-then whole more (ranged_at 1 limits.width magic.1 magic.2)
+    (ranged_at 1 limits.width magic.1 (magic.2 ++ more)) (step2 limits)
+    (goes-ranged whole 1 limits.width magic.1 magic.2 more here)
+    (λ width place. goes-step2 limits whole more width place))
 
 -- ---- the samples
 
 abbrev pub Samples : Type 0
 Samples = List ℕ × List ℕ
 
-abbrev Runs : ℕ → List ℕ → Result Samples Fault → Result Samples Fault → Type 0
+abbrev Runs : ℕ → List ℕ → Result Samples FrameFault → Result Samples FrameFault → Type 0
 Runs whole more (Ok read) further = further ≡ Ok (read.0, read.1 ++ more)
 Runs whole more (Err e) further = Stands e whole further
 
-abbrev pub with_sample : ℕ → Samples → Result Samples Fault
+abbrev pub with_sample : ℕ → Samples → Result Samples FrameFault
 with_sample s read = Ok (s ∷ read.0, read.1)
 
-runs-on : (whole s : ℕ) (more : List ℕ) (r l : Result Samples Fault) → Runs whole more r l → Runs whole more (r >>= with_sample s) (l >>= with_sample s)
+runs-on : (whole s : ℕ) (more : List ℕ) (r l : Result Samples FrameFault) → Runs whole more r l →
+    Runs whole more (r >>= with_sample s) (l >>= with_sample s)
 runs-on whole s more (Ok read) l runs = rw runs refl
 runs-on whole s more (Err e) l runs = stands-on e whole l (with_sample s) runs
 
-runs-choice : (whole : ℕ) (more : List ℕ) (t : Bool) (x y u v : Result Samples Fault) → Runs whole more x u → Runs whole more y v → Runs whole more (cond t x y) (cond t u v)
+runs-choice : (whole : ℕ) (more : List ℕ) (t : Bool) (x y u v : Result Samples FrameFault) →
+    Runs whole more x u → Runs whole more y v → Runs whole more (cond t x y) (cond t u v)
 runs-choice whole more true x y u v left right = left
 runs-choice whole more false x y u v left right = right
 
-runs-samples : (whole n at : ℕ) (bytes more : List ℕ) → at + length bytes ≡ whole → Runs whole more (samples_at n at bytes) (samples_at n at (bytes ++ more))
+runs-samples : (whole n at : ℕ) (bytes more : List ℕ) → at + length bytes ≡ whole →
+    Runs whole more (samples_at n at bytes) (samples_at n at (bytes ++ more))
 runs-samples whole zero at bytes more len = refl
 runs-samples whole (suc n) at [] more len = omega (arith, len)
 runs-samples whole (suc n) at (high ∷ []) more len = omega (arith, len)
 runs-samples whole (suc n) at (high ∷ low ∷ bytes) more len =
     let s : ℕ = 256 * high + low in
     let on = runs-samples whole n (suc (suc at)) bytes more (omega (arith, len)) in
-    runs-choice whole more (nat_le s 4095) (samples_at n (suc (suc at)) bytes >>= with_sample s) (Err (SampleTooLarge at))
+    runs-choice whole more (nat_le s 4095) (samples_at n (suc (suc at)) bytes >>= with_sample s)
+    (Err (SampleTooLarge at))
     (samples_at n (suc (suc at)) (bytes ++ more) >>= with_sample s) (Err (SampleTooLarge at))
-    (runs-on whole s more (samples_at n (suc (suc at)) bytes) (samples_at n (suc (suc at)) (bytes ++ more)) on) refl
+    (runs-on whole s more (samples_at n (suc (suc at)) bytes)
+    (samples_at n (suc (suc at)) (bytes ++ more)) on) refl
 
 -- ---- the file
 
-from-header : (whole : ℕ) (more : List ℕ) (r l : Read (ℕ × ℕ)) (f : Sizes → Result Picture Fault) → Goes whole more r l
-    → ((read : Sizes) → read.1 + length read.2 ≡ whole → Foretells whole more (f read) (f (longer more read)))
+from-header : (whole : ℕ) (more : List ℕ) (r l : Read (ℕ × ℕ))
+    (f : Sizes → Result Picture FrameFault) → Goes whole more r l
+    → ((read : Sizes) → read.1 + length read.2 ≡ whole →
+    Foretells whole more (f read) (f (longer more read)))
     → Foretells whole more (r >>= f) (l >>= f)
 from-header whole more (Ok read) l f goes next = rw goes.0 (next read goes.1)
 from-header whole more (Err e) l f goes next = stands-on e whole l f goes
 
-from-samples : (whole : ℕ) (more : List ℕ) (r l : Result Samples Fault) (f : Samples → Result Picture Fault) → Runs whole more r l
+from-samples : (whole : ℕ) (more : List ℕ) (r l : Result Samples FrameFault)
+    (f : Samples → Result Picture FrameFault) → Runs whole more r l
     → ((read : Samples) → Foretells whole more (f read) (f (read.0, read.1 ++ more)))
     → Foretells whole more (r >>= f) (l >>= f)
 from-samples whole more (Ok read) l f runs next = rw runs (next read)
 from-samples whole more (Err e) l f runs next = stands-on e whole l f runs
 
-from-end : (whole : ℕ) (more : List ℕ) (p : Picture) (rest : List ℕ) → Foretells whole more (ended p rest) (ended p (rest ++ more))
+from-end : (whole : ℕ) (more : List ℕ) (p : Picture) (rest : List ℕ) →
+    Foretells whole more (ended p rest) (ended p (rest ++ more))
 from-end whole more p [] = refl
 from-end whole more p (b ∷ rest) = refl
 
@@ -217,27 +303,34 @@ picture sizes samples = record {
   z = plane_of (λ x y z. z) samples;
 }
 
-abbrev pub behind_samples : ℕ × ℕ → Samples → Result Picture Fault
+abbrev pub behind_samples : ℕ × ℕ → Samples → Result Picture FrameFault
 behind_samples sizes samples = ended (picture sizes samples.0) samples.1
 
-abbrev pub behind_header : Sizes → Result Picture Fault
-behind_header header = samples_at (3 * (header.0.0 * header.0.1)) header.1 header.2 >>= behind_samples header.0
+abbrev pub behind_header : Sizes → Result Picture FrameFault
+behind_header header = samples_at
+    (3 * (header.0.0 * header.0.1)) header.1 header.2 >>= behind_samples header.0
 
 -- A file foretells every longer one: its fault stands, unless only a byte was missing at its end.
-pub foretells : (limits : SizeLimits) (bytes more : List ℕ) → Foretells (length bytes) more (frame_of limits bytes) (frame_of limits (bytes ++ more))
+pub foretells : (limits : SizeLimits) (bytes more : List ℕ) →
+    Foretells (length bytes) more (frame_of limits bytes) (frame_of limits (bytes ++ more))
 unfolding frame_of
 foretells limits bytes more =
     let whole : ℕ = length bytes in
-    from-header whole more (header_at limits bytes) (header_at limits (bytes ++ more)) behind_header (goes-header limits bytes more)
-    (λ header place. from-samples whole more (samples_at (3 * (header.0.0 * header.0.1)) header.1 header.2) (samples_at (3 * (header.0.0 * header.0.1)) header.1 (header.2 ++ more))
-    (behind_samples header.0) (runs-samples whole (3 * (header.0.0 * header.0.1)) header.1 header.2 more place)
+    from-header whole more (header_at limits bytes) (header_at limits (bytes ++ more)) behind_header
+    (goes-header limits bytes more)
+    (λ header place. from-samples whole more
+    (samples_at (3 * (header.0.0 * header.0.1)) header.1 header.2)
+    (samples_at (3 * (header.0.0 * header.0.1)) header.1 (header.2 ++ more))
+    (behind_samples header.0) (runs-samples whole
+    (3 * (header.0.0 * header.0.1)) header.1 header.2 more place)
     (λ samples. from-end whole more (picture header.0 samples.0) samples.1))
 
--- a front of a file that spells a picture lacks a byte, and nothing else is wrong with it
-no-frame : {f : Fault} {p : Picture} {r : Result Picture Fault} → r ≡ Ok p → r ≡ Err f → ⊥
+-- a proper prefix of a file that spells a picture lacks a byte, and nothing else is wrong with it
+no-frame : {f : FrameFault} {p : Picture} {r : Result Picture FrameFault} → r ≡ Ok p → r ≡ Err f → ⊥
 no-frame frame fault = cc
 
-lacks : (fault : Fault) (whole : ℕ) (p : Picture) (r : Result Picture Fault) → r ≡ Ok p → Stands fault whole r → fault ≡ Truncated whole
+lacks : (fault : FrameFault) (whole : ℕ) (p : Picture) (r : Result Picture FrameFault) → r ≡ Ok p →
+    Stands fault whole r → fault ≡ Truncated whole
 lacks (Truncated seen) whole p r frame stands = ap (λ (n : ℕ). Truncated n) stands
 lacks NotPpm whole p r frame stands = absurd (no-frame frame stands)
 lacks (BadHeader place) whole p r frame stands = absurd (no-frame frame stands)
@@ -248,13 +341,18 @@ lacks HeightOutOfRange whole p r frame stands = absurd (no-frame frame stands)
 lacks (SampleTooLarge place) whole p r frame stands = absurd (no-frame frame stands)
 lacks TrailingBytes whole p r frame stands = absurd (no-frame frame stands)
 
-front : (whole b : ℕ) (more : List ℕ) (p : Picture) (r l : Result Picture Fault) → Foretells whole (b ∷ more) r l → l ≡ Ok p → r ≡ Err (Truncated whole)
+front : (whole b : ℕ) (more : List ℕ) (p : Picture) (r l : Result Picture FrameFault) →
+    Foretells whole (b ∷ more) r l → l ≡ Ok p → r ≡ Err (Truncated whole)
 front whole b more p (Ok q) l tells frame = absurd (no-frame frame tells)
-front whole b more p (Err e) l tells frame = ap (λ (f : Fault). refused f) (lacks e whole p l frame tells)
+front whole b more p (Err e) l tells frame =
+    ap (λ (f : FrameFault). refused f) (lacks e whole p l frame tells)
   where
-    refused : Fault → Result Picture Fault
+    refused : FrameFault → Result Picture FrameFault
     refused f = Err f
 
-pub front-truncated : (limits : SizeLimits) (bytes : List ℕ) (b : ℕ) (more : List ℕ) (p : Picture) → frame_of limits (bytes ++ (b ∷ more)) ≡ Ok p → frame_of limits bytes ≡ Err (Truncated (length bytes))
+pub front-truncated : (limits : SizeLimits) (bytes : List ℕ) (b : ℕ) (more : List ℕ) (p : Picture) →
+    frame_of limits (bytes ++ (b ∷ more)) ≡ Ok p →
+    frame_of limits bytes ≡ Err (Truncated (length bytes))
 front-truncated limits bytes b more p frame =
-    front (length bytes) b more p (frame_of limits bytes) (frame_of limits (bytes ++ (b ∷ more))) (foretells limits bytes (b ∷ more)) frame
+    front (length bytes) b more p (frame_of limits bytes) (frame_of limits (bytes ++ (b ∷ more)))
+    (foretells limits bytes (b ∷ more)) frame

@@ -1,5 +1,8 @@
 -- The grammar and the reading are one: what is read is spelled so, and what is spelled so is read.
-use Rattle.std.proofs.Common.{◌≡◌, ℕ, suc, ◌+◌, ◌*◌, ◌-◌, ◌<◌, ◌≤◌, Bool, true, false, cond, ◌&&◌, eqb, ◌⊎◌, List, [], ◌∷◌, ◌++◌, length, Option, Some, None, Result, Ok, Err, refl, ap, subst, ◌∙◌, inl, inr, append_assoc, arith, length-append}
+use Rattle.std.proofs.Common.{◌≡◌, ℕ, suc, ◌+◌, ◌*◌, ◌-◌, ◌<◌, ◌≤◌, Bool, true, false, cond, ◌&&◌}
+use Rattle.std.proofs.Common.{eqb, ◌⊎◌, List, [], ◌∷◌, ◌++◌, length, Option, Some, None, Result, Ok}
+use Rattle.std.proofs.Common.{Err, refl, ap, subst, ◌∙◌, inl, inr, append_assoc, arith}
+use Rattle.std.proofs.Common.{length-append}
 use Rattle.std.specs.Prelude.{All, nat_lt, nat_le}
 use Rattle.std.specs.Char.{is_ascii_digit}
 use Rattle.std.proofs.lemmas.Bool.{and_parts, ltb-true, leb-true, eqb-true}
@@ -7,34 +10,43 @@ use Rattle.std.proofs.lemmas.Option.{cond_some}
 use Rattle.std.proofs.lemmas.List.{append-nil}
 use Rattle.std.proofs.lemmas.List.Elements.{All-cons, All-nil}
 use Rattle.pnm_frames.specs.declared.limits.SizeLimits.{SizeLimits}
-use Rattle.pnm_frames.specs.Fault.{Fault, ◌>>=◌, BadHeader, HeaderTooLong, NotPpm, WidthOutOfRange, HeightOutOfRange, WrongMaxval}
+use Rattle.pnm_frames.specs.declared.fault.FrameFault.{FrameFault}
+use Rattle.pnm_frames.specs.declared.fault.FrameFault.TheVariants.{BadHeader, HeaderTooLong, NotPpm}
+use Rattle.pnm_frames.specs.declared.fault.FrameFault.TheVariants.{WidthOutOfRange}
+use Rattle.pnm_frames.specs.declared.fault.FrameFault.TheVariants.{HeightOutOfRange, WrongMaxval}
+use Rattle.pnm_frames.specs.Fault.{◌>>=◌}
 use Rattle.pnm_frames.specs.Picture.{Picture, IsWithin, raster}
-use Rattle.pnm_frames.specs.Grammar.{is_white, value_from, IsGap, IsNumeral, Parts, header, header_limit, IsHeader, Spells}
-use Rattle.pnm_frames.specs.Reading.{Read, byte_at, magic_at, white_at, digits_at, number_at, ranged_at, or_fault, header_at, ended}
+use Rattle.pnm_frames.specs.Grammar.{is_white, value_from, IsGap, IsNumeral, Parts, header}
+use Rattle.pnm_frames.specs.Grammar.{header_limit, IsHeader, Spells}
+use Rattle.pnm_frames.specs.Reading.{Read, byte_at, magic_at, white_at, digits_at, number_at}
+use Rattle.pnm_frames.specs.Reading.{ranged_at, or_fault, header_at, ended}
 use Rattle.pnm_frames.proofs.Files.{empty}
 
 -- which way a choice went
-pub chosen : {A : Type 0} (b : Bool) (x y z : A) → cond b x y ≡ z → ((b ≡ true) × (x ≡ z)) ⊎ ((b ≡ false) × (y ≡ z))
+pub chosen : {A : Type 0} (b : Bool) (x y z : A) → cond b x y ≡ z →
+    ((b ≡ true) × (x ≡ z)) ⊎ ((b ≡ false) × (y ≡ z))
 chosen true x y z e = inl (refl, e)
 chosen false x y z e = inr (refl, e)
 
-abbrev value : {A : Type 0} → A → Result A Fault
+abbrev value : {A : Type 0} → A → Result A FrameFault
 value x = Ok x
 
-abbrev pub refused : {A : Type 0} → Fault → Result A Fault
+abbrev pub refused : {A : Type 0} → FrameFault → Result A FrameFault
 refused f = Err f
 
 pub value-is : {A : Type 0} (x y : A) → value x ≡ value y → x ≡ y
 value-is x y e = cc
 
-pub no-value : {A : Type 0} {f : Fault} {x : A} → refused f ≡ value x → ⊥
+pub no-value : {A : Type 0} {f : FrameFault} {x : A} → refused f ≡ value x → ⊥
 no-value e = cc
 
-neither : {A : Type 0} (t : Bool) (f g : Fault) (x : A) → cond t (refused f) (refused g) ≡ value x → ⊥
+neither : {A : Type 0} (t : Bool) (f g : FrameFault) (x : A) →
+    cond t (refused f) (refused g) ≡ value x → ⊥
 neither true f g x e = cc
 neither false f g x e = cc
 
-pub bind_ok : {A B : Type 0} (r : Result A Fault) (f : A → Result B Fault) (y : B) → (r >>= f) ≡ Ok y → (x : A) × (r ≡ Ok x) × (f x ≡ Ok y)
+pub bind_ok : {A B : Type 0} (r : Result A FrameFault) (f : A → Result B FrameFault) (y : B) →
+    (r >>= f) ≡ Ok y → (x : A) × (r ≡ Ok x) × (f x ≡ Ok y)
 bind_ok (Ok x) f y e = (x, refl, e)
 bind_ok (Err d) f y e = absurd cc
 
@@ -57,14 +69,18 @@ pub record WhiteRead (at : ℕ) (bytes : List ℕ) (read : Point) : Type 0 where
   pub room : read.1 ≤ header_limit
   pub other : is_white read.0 ≡ false
 
-pub white-found : (at : ℕ) (bytes : List ℕ) (read : Point) → white_at at bytes ≡ Ok read → WhiteRead at bytes read
+pub white-found : (at : ℕ) (bytes : List ℕ) (read : Point) → white_at at bytes ≡ Ok read →
+    WhiteRead at bytes read
 white-found at [] read e = absurd (neither (nat_lt at header_limit) _ _ read e)
 white-found at (x ∷ bytes) read e =
-    elim (chosen (nat_lt at header_limit) (cond (is_white x) (white_at (suc at) bytes) (Ok (x, suc at, bytes))) (Err HeaderTooLong) (Ok read) e) [
+    elim (chosen (nat_lt at header_limit)
+    (cond (is_white x) (white_at (suc at) bytes) (Ok (x, suc at, bytes))) (Err HeaderTooLong)
+    (Ok read) e) [
       | inr late ↦ absurd (no-value late.1)
       | inl early ↦
           let lt : at < header_limit = ltb-true at header_limit early.0 in
-          elim (chosen (is_white x) (white_at (suc at) bytes) (Ok (x, suc at, bytes)) (Ok read) early.1) [
+          elim (chosen (is_white x) (white_at (suc at) bytes) (Ok (x, suc at, bytes))
+          (Ok read) early.1) [
             | inl more ↦
                 let rest = white-found (suc at) bytes read more.1 in
                 record {
@@ -76,7 +92,8 @@ white-found at (x ∷ bytes) read e =
                   other = rest.other;
                 }
             | inr last ↦
-                let same : (let p : Point = (x, suc at, bytes) in p) ≡ read = value-is (x, suc at, bytes) read last.1 in
+                let same : (let p : Point = (x, suc at, bytes) in p) ≡ read =
+                value-is (x, suc at, bytes) read last.1 in
                 subst (λ (p : Point). WhiteRead at (x ∷ bytes) p) same (record {
                   gap = [];
                   white = All-nil IsWhite;
@@ -100,18 +117,21 @@ pub record DigitsRead (n at : ℕ) (bytes : List ℕ) (read : Point) : Type 0 wh
   pub place : read.1 ≡ at + length digits + 1
   pub room : read.1 ≤ header_limit
 
-digits-found : (n at : ℕ) (bytes : List ℕ) (read : Point) → digits_at n at bytes ≡ Ok read → DigitsRead n at bytes read
+digits-found : (n at : ℕ) (bytes : List ℕ) (read : Point) → digits_at n at bytes ≡ Ok read →
+    DigitsRead n at bytes read
 digits-found n at [] read e = absurd (neither (nat_lt at header_limit) _ _ read e)
 digits-found n at (x ∷ bytes) read e =
     let on : Read ℕ = digits_at (10 * n + (x - 48)) (suc at) bytes in
     let inner : Read ℕ = cond (is_ascii_digit x) on (Err (BadHeader at)) in
-    elim (chosen (nat_lt at header_limit) (cond (is_white x) (Ok (n, suc at, bytes)) inner) (Err HeaderTooLong) (Ok read) e) [
+    elim (chosen (nat_lt at header_limit) (cond (is_white x) (Ok (n, suc at, bytes)) inner)
+    (Err HeaderTooLong) (Ok read) e) [
       | inr late ↦ absurd (no-value late.1)
       | inl early ↦
           let lt : at < header_limit = ltb-true at header_limit early.0 in
           elim (chosen (is_white x) (Ok (n, suc at, bytes)) inner (Ok read) early.1) [
             | inl last ↦
-                let same : (let p : Point = (n, suc at, bytes) in p) ≡ read = value-is (n, suc at, bytes) read last.1 in
+                let same : (let p : Point = (n, suc at, bytes) in p) ≡ read =
+                value-is (n, suc at, bytes) read last.1 in
                 subst (λ (p : Point). DigitsRead n at (x ∷ bytes) p) same (record {
                   digits = [];
                   end = x;
@@ -122,21 +142,22 @@ digits-found n at (x ∷ bytes) read e =
                   place = omega arith;
                   room = omega arith;
                 })
-            | inr other ↦ elim (chosen (is_ascii_digit x) on (Err (BadHeader at)) (Ok read) other.1) [
-              | inl more ↦
-                  let rest = digits-found (10 * n + (x - 48)) (suc at) bytes read more.1 in
-                  record {
-                    digits = x ∷ rest.digits;
-                    end = rest.end;
-                    ascii = All-cons IsDigit x rest.digits more.0 rest.ascii;
-                    ends = rest.ends;
-                    worth = rest.worth;
-                    parts = ap (λ (t : List ℕ). x ∷ t) rest.parts;
-                    place = omega (arith, rest.place);
-                    room = rest.room;
-                  }
-              | inr bad ↦ absurd (no-value bad.1)
-            ]
+            | inr other ↦ elim (chosen (is_ascii_digit x) on (Err (BadHeader at))
+                (Ok read) other.1) [
+                  | inl more ↦
+                      let rest = digits-found (10 * n + (x - 48)) (suc at) bytes read more.1 in
+                      record {
+                        digits = x ∷ rest.digits;
+                        end = rest.end;
+                        ascii = All-cons IsDigit x rest.digits more.0 rest.ascii;
+                        ends = rest.ends;
+                        worth = rest.worth;
+                        parts = ap (λ (t : List ℕ). x ∷ t) rest.parts;
+                        place = omega (arith, rest.place);
+                        room = rest.room;
+                      }
+                  | inr bad ↦ absurd (no-value bad.1)
+                ]
           ]
     ]
 
@@ -154,15 +175,18 @@ pub record NumberRead (at : ℕ) (bytes : List ℕ) (read : Point) : Type 0 wher
   pub room : read.1 ≤ header_limit
 
 abbrev pub behind_white : Point → Read ℕ
-behind_white first = cond (is_ascii_digit first.0) (digits_at (first.0 - 48) first.1 first.2) (Err (BadHeader (first.1 - 1)))
+behind_white first = cond (is_ascii_digit first.0) (digits_at (first.0 - 48) first.1 first.2)
+    (Err (BadHeader (first.1 - 1)))
 
-pub number-found : (at : ℕ) (bytes : List ℕ) (read : Point) → number_at at bytes ≡ Ok read → NumberRead at bytes read
+pub number-found : (at : ℕ) (bytes : List ℕ) (read : Point) → number_at at bytes ≡ Ok read →
+    NumberRead at bytes read
 unfolding number_at
 number-found at bytes read e =
     let front = bind_ok (white_at at bytes) behind_white read e in
     let first = front.0 in
     let white = white-found at bytes first front.1 in
-    elim (chosen (is_ascii_digit first.0) (digits_at (first.0 - 48) first.1 first.2) (Err (BadHeader (first.1 - 1))) (Ok read) front.2) [
+    elim (chosen (is_ascii_digit first.0) (digits_at (first.0 - 48) first.1 first.2)
+    (Err (BadHeader (first.1 - 1))) (Ok read) front.2) [
       | inr bad ↦ absurd (no-value bad.1)
       | inl good ↦
           let rest = digits-found (first.0 - 48) first.1 first.2 read good.1 in
@@ -188,47 +212,67 @@ abbrev pub Choice : Type 0
 Choice = Option ℕ × ℕ × List ℕ
 
 abbrev pub judged : ℕ → ℕ → Point → Read (Option ℕ)
-judged low high number = Ok (cond (nat_le low number.0 && nat_le number.0 high) (Some number.0) None, number.1, number.2)
+judged low high number = Ok (
+  cond (nat_le low number.0 && nat_le number.0 high)
+      (Some number.0) None,
+  number.1,
+  number.2,
+)
 
 -- a number within the range
-ranged-found : (low high at : ℕ) (bytes : List ℕ) (n : ℕ) (read : Choice) → ranged_at low high at bytes ≡ Ok read → read.0 ≡ Some n
+ranged-found : (low high at : ℕ) (bytes : List ℕ) (n : ℕ) (read : Choice) →
+    ranged_at low high at bytes ≡ Ok read → read.0 ≡ Some n
     → NumberRead at bytes (n, read.1, read.2) × (low ≤ n) × (n ≤ high)
 unfolding ranged_at
 ranged-found low high at bytes n read e is =
     let number = bind_ok (number_at at bytes) (judged low high) read e in
     let x = number.0 in
-    let same : (let p : Choice = (cond (nat_le low x.0 && nat_le x.0 high) (Some x.0) None, x.1, x.2) in p) ≡ read =
+    let same : (let p : Choice = (
+      cond (nat_le low x.0 && nat_le x.0 high)
+          (Some x.0) None,
+      x.1,
+      x.2,
+    ) in p) ≡ read =
     value-is (cond (nat_le low x.0 && nat_le x.0 high) (Some x.0) None, x.1, x.2) read number.2 in
-    let chose = cond_some (nat_le low x.0 && nat_le x.0 high) x.0 n (ap (λ (p : Choice). p.0) same ∙ is) in
+    let chose = cond_some (nat_le low x.0 && nat_le x.0 high) x.0 n
+    (ap (λ (p : Choice). p.0) same ∙ is) in
     let tests = and_parts (nat_le low x.0) (nat_le x.0 high) chose.0 in
     let place : x.1 ≡ read.1 = ap (λ (p : Choice). p.1) same in
     let behind : x.2 ≡ read.2 = ap (λ (p : Choice). p.2) same in
-    let point : (let p : Point = (x.0, x.1, x.2) in p) ≡ (n, read.1, read.2) = rw (chose.1, place, behind) refl in
+    let point : (let p : Point = (x.0, x.1, x.2) in p) ≡ (n, read.1, read.2) =
+    rw (chose.1, place, behind) refl in
     let low_is : low ≤ n = rw chose.1 at (leb-true low x.0 tests.0) in
-    let high_is : n ≤ high = rw chose.1 at (leb-true x.0 high tests.1) in
-    (subst (λ (p : Point). NumberRead at bytes p) point (number-found at bytes x number.1), low_is, high_is)
+    let high_is : n ≤ high = rw chose.1 at (leb-true x.0 high tests.1) in (
+      subst (λ (p : Point). NumberRead at bytes p) point
+          (number-found at bytes x number.1),
+      low_is,
+      high_is,
+    )
 
 -- ---- the header
 
-some-of : (fault : Fault) (o : Option ℕ) (n : ℕ) → or_fault fault o ≡ Ok n → o ≡ Some n
+some-of : (fault : FrameFault) (o : Option ℕ) (n : ℕ) → or_fault fault o ≡ Ok n → o ≡ Some n
 some-of fault None n e = absurd cc
 some-of fault (Some x) n e = let same : x ≡ n = value-is x n e in rw same refl
 
-byte-found : (at : ℕ) (bytes : List ℕ) (read : Point) → byte_at at bytes ≡ Ok read → (bytes ≡ read.0 ∷ read.2) × (read.1 ≡ suc at)
+byte-found : (at : ℕ) (bytes : List ℕ) (read : Point) → byte_at at bytes ≡ Ok read →
+    (bytes ≡ read.0 ∷ read.2) × (read.1 ≡ suc at)
 byte-found at [] read e = absurd (neither (nat_lt at header_limit) _ _ read e)
 byte-found at (b ∷ bytes) read e =
     elim (chosen (nat_lt at header_limit) (Ok (b, suc at, bytes)) (Err HeaderTooLong) (Ok read) e) [
       | inr late ↦ absurd (no-value late.1)
       | inl early ↦
-          let same : (let p : Point = (b, suc at, bytes) in p) ≡ read = value-is (b, suc at, bytes) read early.1 in
+          let same : (let p : Point = (b, suc at, bytes) in p) ≡ read =
+          value-is (b, suc at, bytes) read early.1 in
           subst (λ (p : Point). (b ∷ bytes ≡ p.0 ∷ p.2) × (p.1 ≡ suc at)) same (refl, refl)
     ]
 
 abbrev behind_first : ℕ → Point → Read ℕ
 behind_first wanted first = cond (eqb first.0 wanted) (byte_at first.1 first.2) (Err NotPpm)
 
--- one byte of the magic number, and the byte behind it
-letter-found : (wanted : ℕ) (first read : Point) → behind_first wanted first ≡ Ok read → (first.0 ≡ wanted) × (first.2 ≡ read.0 ∷ read.2) × (read.1 ≡ suc first.1)
+-- one byte of the magic number, and the byte after it
+letter-found : (wanted : ℕ) (first read : Point) → behind_first wanted first ≡ Ok read →
+    (first.0 ≡ wanted) × (first.2 ≡ read.0 ∷ read.2) × (read.1 ≡ suc first.1)
 letter-found wanted first read e =
     elim (chosen (eqb first.0 wanted) (byte_at first.1 first.2) (Err NotPpm) (Ok read) e) [
       | inr other ↦ absurd (no-value other.1)
@@ -264,11 +308,14 @@ magic-found bytes read e =
     let p = byte-found 0 bytes a.0 a.1 in
     let six = letter-found 80 a.0 b.0 b.1 in
     let gap = letter-found 54 b.0 c.0 c.1 in
-    let whole : bytes ≡ 80 ∷ 54 ∷ c.0.0 ∷ c.0.2 = joined bytes a.0 b.0 c.0 p.0 six.0 six.1 gap.0 gap.1 in
-    elim (chosen (is_white c.0.0) (Ok (empty, c.0.1, c.0.2)) (Err (BadHeader b.0.1)) (Ok read) c.2) [
+    let whole : bytes ≡ 80 ∷ 54 ∷ c.0.0 ∷ c.0.2 =
+    joined bytes a.0 b.0 c.0 p.0 six.0 six.1 gap.0 gap.1 in
+    elim (chosen (is_white c.0.0) (Ok (empty, c.0.1, c.0.2)) (Err (BadHeader b.0.1))
+    (Ok read) c.2) [
       | inr other ↦ absurd (no-value other.1)
       | inl white ↦
-          let same : (let m : Mark = (empty, c.0.1, c.0.2) in m) ≡ read = value-is (empty, c.0.1, c.0.2) read white.1 in
+          let same : (let m : Mark = (empty, c.0.1, c.0.2) in m) ≡ read =
+          value-is (empty, c.0.1, c.0.2) read white.1 in
           subst (λ (m : Mark). MagicRead bytes m) same (record {
             gap = c.0.0;
             white = white.0;
@@ -277,40 +324,62 @@ magic-found bytes read e =
           })
     ]
   where
-    joined : (bytes : List ℕ) (a b c : Point) → bytes ≡ a.0 ∷ a.2 → a.0 ≡ 80 → a.2 ≡ b.0 ∷ b.2 → b.0 ≡ 54 → b.2 ≡ c.0 ∷ c.2 → bytes ≡ 80 ∷ 54 ∷ c.0 ∷ c.2
+    joined : (bytes : List ℕ) (a b c : Point) → bytes ≡ a.0 ∷ a.2 → a.0 ≡ 80 → a.2 ≡ b.0 ∷ b.2 →
+        b.0 ≡ 54 → b.2 ≡ c.0 ∷ c.2 → bytes ≡ 80 ∷ 54 ∷ c.0 ∷ c.2
     joined bytes a b c p q r s t = cc
 
-pub whole-header : (g e1 e2 e3 : ℕ) (g1 w g2 h g3 m rest a b c bytes : List ℕ) → bytes ≡ 80 ∷ 54 ∷ g ∷ a → a ≡ g1 ++ (w ++ (e1 ∷ b)) → b ≡ g2 ++ (h ++ (e2 ∷ c)) → c ≡ g3 ++ (m ++ (e3 ∷ rest))
-    → bytes ≡ header (record { gap1 = g ∷ g1; width = w; gap2 = e1 ∷ g2; height = h; gap3 = e2 ∷ g3; maxval = m; end = e3 }) ++ rest
+pub whole-header : (g e1 e2 e3 : ℕ) (g1 w g2 h g3 m rest a b c bytes : List ℕ) →
+    bytes ≡ 80 ∷ 54 ∷ g ∷ a → a ≡ g1 ++ (w ++ (e1 ∷ b)) → b ≡ g2 ++ (h ++ (e2 ∷ c)) →
+    c ≡ g3 ++ (m ++ (e3 ∷ rest))
+    → bytes ≡ header (record {
+      gap1 = g ∷ g1;
+      width = w;
+      gap2 = e1 ∷ g2;
+      height = h;
+      gap3 =
+          e2 ∷ g3;
+      maxval = m;
+      end = e3;
+    }) ++ rest
 whole-header g e1 e2 e3 g1 w g2 h g3 m rest a b c bytes p q r s =
     p ∙ rw (q, r, s) (simp append_assoc)
 
 pub length-header : (g e1 e2 e3 : ℕ) (g1 w g2 h g3 m : List ℕ)
-    → length (header (record { gap1 = g ∷ g1; width = w; gap2 = e1 ∷ g2; height = h; gap3 = e2 ∷ g3; maxval = m; end = e3 })) ≡ 3 + length g1 + length w + 1 + length g2 + length h + 1 + length g3 + length m + 1
+    → length (header (record {
+      gap1 = g ∷ g1;
+      width = w;
+      gap2 = e1 ∷ g2;
+      height = h;
+      gap3 =
+          e2 ∷ g3;
+      maxval = m;
+      end = e3;
+    }))
+    ≡ 3 + length g1 + length w + 1 + length g2 + length h + 1 + length g3 + length m + 1
 length-header g e1 e2 e3 g1 w g2 h g3 m = simp length-append (omega arith)
 
 abbrev pub Sizes : Type 0
 Sizes = (ℕ × ℕ) × ℕ × List ℕ
 
-abbrev pub step7 : ℕ → ℕ → Choice → ℕ → Result Sizes Fault
+abbrev pub step7 : ℕ → ℕ → Choice → ℕ → Result Sizes FrameFault
 step7 w h maxval m = Ok ((w, h), maxval.1, maxval.2)
 
-abbrev pub step6 : ℕ → ℕ → Choice → Result Sizes Fault
+abbrev pub step6 : ℕ → ℕ → Choice → Result Sizes FrameFault
 step6 w h maxval = or_fault WrongMaxval maxval.0 >>= step7 w h maxval
 
-abbrev pub step5 : ℕ → Choice → ℕ → Result Sizes Fault
+abbrev pub step5 : ℕ → Choice → ℕ → Result Sizes FrameFault
 step5 w height h = ranged_at 4095 4095 height.1 height.2 >>= step6 w h
 
-abbrev pub step4 : ℕ → Choice → Result Sizes Fault
+abbrev pub step4 : ℕ → Choice → Result Sizes FrameFault
 step4 w height = or_fault HeightOutOfRange height.0 >>= step5 w height
 
-abbrev pub step3 : SizeLimits → Choice → ℕ → Result Sizes Fault
+abbrev pub step3 : SizeLimits → Choice → ℕ → Result Sizes FrameFault
 step3 limits width w = ranged_at 1 limits.height width.1 width.2 >>= step4 w
 
-abbrev pub step2 : SizeLimits → Choice → Result Sizes Fault
+abbrev pub step2 : SizeLimits → Choice → Result Sizes FrameFault
 step2 limits width = or_fault WidthOutOfRange width.0 >>= step3 limits width
 
-abbrev pub step1 : SizeLimits → Mark → Result Sizes Fault
+abbrev pub step1 : SizeLimits → Mark → Result Sizes FrameFault
 step1 limits magic = ranged_at 1 limits.width magic.1 magic.2 >>= step2 limits
 
 pub record HeaderRead (limits : SizeLimits) (bytes : List ℕ) (read : Sizes) : Type 0 where
@@ -321,9 +390,14 @@ pub record HeaderRead (limits : SizeLimits) (bytes : List ℕ) (read : Sizes) : 
   pub place : read.1 ≡ length (header parts)
 
 pub gap-of : (b : ℕ) (gap : List ℕ) → is_white b ≡ true → All IsWhite gap → IsGap (b ∷ gap)
-gap-of b gap first others = record { some = omega arith; white = All-cons IsWhite b gap first others }
+gap-of b gap first others = record {
+  some = omega arith;
+  white =
+      All-cons IsWhite b gap first others;
+}
 
-pub header-found : (limits : SizeLimits) (bytes : List ℕ) (read : Sizes) → header_at limits bytes ≡ Ok read → HeaderRead limits bytes read
+pub header-found : (limits : SizeLimits) (bytes : List ℕ) (read : Sizes) →
+    header_at limits bytes ≡ Ok read → HeaderRead limits bytes read
 unfolding header_at
 header-found limits bytes read e =
     let a = bind_ok (magic_at 0 bytes) (step1 limits) read e in
@@ -334,19 +408,41 @@ header-found limits bytes read e =
     let d = bind_ok (ranged_at 4095 4095 c.0.1 c.0.2) (step6 w.0 h.0) read h.2 in
     let m = bind_ok (or_fault WrongMaxval d.0.0) (step7 w.0 h.0 d.0) read d.2 in
     let magic = magic-found bytes a.0 a.1 in
-    let width = ranged-found 1 limits.width a.0.1 a.0.2 w.0 b.0 b.1 (some-of WidthOutOfRange b.0.0 w.0 w.1) in
-    let height = ranged-found 1 limits.height b.0.1 b.0.2 h.0 c.0 c.1 (some-of HeightOutOfRange c.0.0 h.0 h.1) in
-    let maxval = ranged-found 4095 4095 c.0.1 c.0.2 m.0 d.0 d.1 (some-of WrongMaxval d.0.0 m.0 m.1) in
+    let width = ranged-found 1 limits.width a.0.1 a.0.2 w.0 b.0 b.1
+    (some-of WidthOutOfRange b.0.0 w.0 w.1) in
+    let height = ranged-found 1 limits.height b.0.1 b.0.2 h.0 c.0 c.1
+    (some-of HeightOutOfRange c.0.0 h.0 h.1) in
+    let maxval = ranged-found 4095 4095 c.0.1 c.0.2 m.0 d.0 d.1
+    (some-of WrongMaxval d.0.0 m.0 m.1) in
     put magic.gap w.0 h.0 m.0 a.0.1 b.0.1 c.0.1 d.0.1 a.0.2 b.0.2 c.0.2 d.0.2 bytes read magic.white magic.parts magic.place width.0 height.0 maxval.0
     (omega (arith, maxval.1, maxval.2))
-    (record { some_width = width.1; width_in_limits = width.2; some_height = height.1; height_in_limits = height.2 }) (value-is ((w.0, h.0), d.0.1, d.0.2) read m.2)
+    (record {
+      some_width = width.1;
+      width_in_limits = width.2;
+      some_height =
+          height.1;
+      height_in_limits = height.2;
+    }) (value-is ((w.0, h.0), d.0.1, d.0.2) read m.2)
   where
-    put : (g w h m at1 at2 at3 at4 : ℕ) (r1 r2 r3 r4 bytes : List ℕ) (read : Sizes) → is_white g ≡ true → bytes ≡ 80 ∷ 54 ∷ g ∷ r1 → at1 ≡ 3
-        → NumberRead at1 r1 (w, at2, r2) → NumberRead at2 r2 (h, at3, r3) → NumberRead at3 r3 (m, at4, r4) → m ≡ 4095
-        → IsWithin limits w h → (let s : Sizes = ((w, h), at4, r4) in s) ≡ read → HeaderRead limits bytes read
+    put : (g w h m at1 at2 at3 at4 : ℕ) (r1 r2 r3 r4 bytes : List ℕ) (read : Sizes) →
+        is_white g ≡ true → bytes ≡ 80 ∷ 54 ∷ g ∷ r1 → at1 ≡ 3
+        → NumberRead at1 r1 (w, at2, r2) → NumberRead at2 r2 (h, at3, r3) →
+        NumberRead at3 r3 (m, at4, r4) → m ≡ 4095
+        → IsWithin limits w h → (let s : Sizes = ((w, h), at4, r4) in s) ≡ read →
+        HeaderRead limits bytes read
     put g w h m at1 at2 at3 at4 r1 r2 r3 r4 bytes read white magic three width height maxval is within same =
         subst (λ (s : Sizes). HeaderRead limits bytes s) same (record {
-          parts = record { gap1 = g ∷ width.gap; width = width.digits; gap2 = width.end ∷ height.gap; height = height.digits; gap3 = height.end ∷ maxval.gap; maxval = maxval.digits; end = maxval.end };
+          parts = record {
+            gap1 = g ∷ width.gap;
+            width = width.digits;
+            gap2 =
+                width.end ∷ height.gap;
+            height = height.digits;
+            gap3 =
+                height.end ∷ maxval.gap;
+            maxval = maxval.digits;
+            end = maxval.end;
+          };
           is_header = record {
             gap1 = gap-of g width.gap white width.white;
             width_is = width.numeral;
@@ -379,16 +475,23 @@ header-found limits bytes read e =
 
 -- ---- the file
 
-abbrev nothing_in : List ℕ → Result (Unit {0}) Fault
+abbrev nothing_in : List ℕ → Result (Unit {0}) FrameFault
 nothing_in rest = ended empty rest
 
 at-end : (rest : List ℕ) → nothing_in rest ≡ value empty → rest ≡ []
 at-end [] e = refl
 at-end (x ∷ rest) e = absurd cc
 
-pub file-found : (limits : SizeLimits) (p : Picture) (bytes : List ℕ) (w h at : ℕ) (front rest : List ℕ) → header_at limits bytes ≡ Ok ((w, h), at, front)
-    → p.width ≡ w → p.height ≡ h → front ≡ raster p ++ rest → nothing_in rest ≡ value empty → Spells bytes p
+pub file-found : (limits : SizeLimits) (p : Picture) (bytes : List ℕ) (w h at : ℕ)
+    (front rest : List ℕ) → header_at limits bytes ≡ Ok ((w, h), at, front)
+    → p.width ≡ w → p.height ≡ h → front ≡ raster p ++ rest → nothing_in rest ≡ value empty →
+    Spells bytes p
 file-found limits p bytes w h at front rest e wide tall parts last =
     let head = header-found limits bytes ((w, h), at, front) e in
-    let behind : front ≡ raster p = parts ∙ ap (λ (t : List ℕ). raster p ++ t) (at-end rest last) ∙ append-nil (raster p) in
-    (head.parts, rw (wide, tall) head.is_header, head.whole ∙ ap (λ (t : List ℕ). header head.parts ++ t) behind)
+    let behind : front ≡ raster p = parts ∙ ap (λ (t : List ℕ). raster p ++ t) (at-end rest last)
+    ∙ append-nil (raster p) in (
+      head.parts,
+      rw (wide, tall) head.is_header,
+      head.whole
+          ∙ ap (λ (t : List ℕ). header head.parts ++ t) behind,
+    )

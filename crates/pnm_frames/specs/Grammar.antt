@@ -1,5 +1,6 @@
 -- The grammar of a file: ppm(5), magic P6, maxval 4095, without comments.
-use Rattle.std.specs.Prelude.{ℕ, ◌≡◌, ◌<◌, ◌≤◌, ◌+◌, ◌*◌, ◌-◌, Bool, true, ◌||◌, ◌==◌, List, [], ◌∷◌, ◌++◌, length, All}
+use Rattle.std.specs.Prelude.{ℕ, ◌≡◌, ◌<◌, ◌≤◌, ◌+◌, ◌*◌, ◌-◌, Bool, true, ◌||◌, ◌==◌, List, []}
+use Rattle.std.specs.Prelude.{◌∷◌, ◌++◌, length, All}
 use Rattle.std.specs.Char.{is_ascii_digit}
 use Rattle.pnm_frames.specs.Picture.{Picture, raster}
 
@@ -7,7 +8,7 @@ use Rattle.pnm_frames.specs.Picture.{Picture, raster}
 abbrev pub is_white : ℕ → Bool
 is_white b = b == 32 || b == 9 || b == 10 || b == 13
 
--- what the digits are worth behind a number n
+-- what the digits are worth after a number n
 abbrev pub value_from : ℕ → List ℕ → ℕ
 value_from n [] = n
 value_from n (digit ∷ digits) = value_from (10 * n + (digit - 48)) digits
@@ -33,7 +34,7 @@ pub record Parts : Type 0 where
   pub maxval : List ℕ
   pub end : ℕ
 
--- the magic number `P6`, the parts in order, and one byte behind the maxval
+-- the magic number `P6`, the parts in order, and one byte after the maxval
 abbrev pub header : Parts → List ℕ
 header parts = 80 ∷ 54 ∷ (parts.gap1 ++ (parts.width ++ (parts.gap2 ++ (parts.height
     ++ (parts.gap3 ++ (parts.maxval ++ (parts.end ∷ [])))))))
@@ -42,7 +43,8 @@ header parts = 80 ∷ 54 ∷ (parts.gap1 ++ (parts.width ++ (parts.gap2 ++ (part
 abbrev pub header_limit : ℕ
 header_limit = 4096
 
--- Gaps and numbers in turn; the maxval is 4095, a white space byte ends it, and the header isn't too long.
+-- Gaps and numbers in turn; the maxval is 4095, a white space byte ends it, and the header isn't
+-- too long.
 pub record IsHeader (parts : Parts) (width height : ℕ) : Type 0 where
   pub gap1 : IsGap parts.gap1
   pub width_is : IsNumeral parts.width width
@@ -55,4 +57,5 @@ pub record IsHeader (parts : Parts) (width height : ℕ) : Type 0 where
 
 -- the bytes are a header of the picture's width and height, and its raster
 abbrev pub Spells : List ℕ → Picture → Type 0
-Spells bytes p = (parts : Parts) × IsHeader parts p.width p.height × (bytes ≡ header parts ++ raster p)
+Spells bytes p = (parts : Parts) × IsHeader parts p.width p.height ×
+    (bytes ≡ header parts ++ raster p)

@@ -1,20 +1,27 @@
--- What is wrong with a file, in the words of the grammar: each fault by the bytes up to the one that shows it.
-use Rattle.std.specs.Prelude.{ℕ, zero, suc, ◌≡◌, ◌<◌, ◌≤◌, ◌+◌, ◌*◌, ◌⊎◌, true, false, List, [], ◌∷◌, ◌++◌, length, All}
+-- What is wrong with a file, in the words of the grammar: each fault by the bytes up to the one
+-- that shows it.
+use Rattle.std.specs.Prelude.{ℕ, zero, suc, ◌≡◌, ◌<◌, ◌≤◌, ◌+◌, ◌*◌, ◌⊎◌, true, false, List, []}
+use Rattle.std.specs.Prelude.{◌∷◌, ◌++◌, length, All}
 use Rattle.std.specs.Char.{is_ascii_digit}
 use Rattle.std.specs.List.{flat_map}
 use Rattle.pnm_frames.specs.declared.limits.SizeLimits.{SizeLimits}
-use Rattle.pnm_frames.specs.Fault.{Fault, NotPpm, BadHeader, HeaderTooLong, WrongMaxval, WidthOutOfRange, HeightOutOfRange, SampleTooLarge, Truncated, TrailingBytes}
-use Rattle.pnm_frames.specs.Grammar.{is_white, header_limit, IsGap, IsNumeral, Parts, header, IsHeader}
+use Rattle.pnm_frames.specs.declared.fault.FrameFault.{FrameFault}
+use Rattle.pnm_frames.specs.declared.fault.FrameFault.TheVariants.{NotPpm, BadHeader, HeaderTooLong}
+use Rattle.pnm_frames.specs.declared.fault.FrameFault.TheVariants.{WrongMaxval, WidthOutOfRange}
+use Rattle.pnm_frames.specs.declared.fault.FrameFault.TheVariants.{HeightOutOfRange, SampleTooLarge}
+use Rattle.pnm_frames.specs.declared.fault.FrameFault.TheVariants.{Truncated, TrailingBytes}
+use Rattle.pnm_frames.specs.Grammar.{is_white, header_limit, IsGap, IsNumeral, Parts, header}
+use Rattle.pnm_frames.specs.Grammar.{IsHeader}
 use Rattle.pnm_frames.specs.Picture.{IsSample, IsWithin}
 
--- what a header's number may be behind so many others: a width, a height, a maxval
+-- what a header's number may be after so many others: a width, a height, a maxval
 abbrev pub IsInRange : SizeLimits → ℕ → ℕ → Type 0
 IsInRange limits zero n = (1 ≤ n) × (n ≤ limits.width)
 IsInRange limits (suc zero) n = (1 ≤ n) × (n ≤ limits.height)
 IsInRange limits (suc (suc k)) n = n ≡ 4095
 
 -- the fault of one that isn't
-abbrev pub range_fault : ℕ → Fault
+abbrev pub range_fault : ℕ → FrameFault
 range_fault zero = WidthOutOfRange
 range_fault (suc zero) = HeightOutOfRange
 range_fault (suc (suc k)) = WrongMaxval
@@ -29,12 +36,14 @@ pub record EndsInNumber (IsBefore : List ℕ → Type 0) (n : ℕ) (bytes : List
   pub number : IsNumeral digits n
   pub whole : bytes ≡ before ++ (gap ++ digits)
 
--- `P6`, and so many numbers in their ranges, each behind a gap
+-- `P6`, and so many numbers in their ranges, each after a gap
 abbrev pub HasNumbers : SizeLimits → ℕ → List ℕ → Type 0
 HasNumbers limits zero bytes = bytes ≡ 80 ∷ 54 ∷ []
-HasNumbers limits (suc k) bytes = (n : ℕ) × EndsInNumber (HasNumbers limits k) n bytes × IsInRange limits k n
+HasNumbers limits (suc k) bytes =
+    (n : ℕ) × EndsInNumber (HasNumbers limits k) n bytes × IsInRange limits k n
 
--- a header that hasn't ended: `P6`, at most two numbers, a gap, and no digits or some of the next number
+-- a header that hasn't ended: `P6`, at most two numbers, a gap, and no digits or some of the next
+-- number
 pub record IsOpen (limits : SizeLimits) (bytes : List ℕ) : Type 0 where
   pub numbers : ℕ
   pub few : numbers < 3
@@ -70,10 +79,12 @@ pub record HasSamples (limits : SizeLimits) (bytes : List ℕ) : Type 0 where
 
 -- a raster in which samples are missing, and one in which none is
 abbrev pub LacksSamples : SizeLimits → List ℕ → Type 0
-LacksSamples limits bytes = (read : HasSamples limits bytes) × (length read.samples < 3 * (read.width * read.height))
+LacksSamples limits bytes = (read : HasSamples limits bytes) ×
+    (length read.samples < 3 * (read.width * read.height))
 
 abbrev pub HasAllSamples : SizeLimits → List ℕ → Type 0
-HasAllSamples limits bytes = (read : HasSamples limits bytes) × (length read.samples ≡ 3 * (read.width * read.height))
+HasAllSamples limits bytes = (read : HasSamples limits bytes) ×
+    (length read.samples ≡ 3 * (read.width * read.height))
 
 -- what is there of the first two bytes isn't `P6`
 abbrev pub IsNotP6 : List ℕ → Type 0
@@ -81,31 +92,45 @@ IsNotP6 [] = ⊥
 IsNotP6 (p ∷ []) = p ≡ 80 → ⊥
 IsNotP6 (p ∷ six ∷ bytes) = p ≡ 80 → six ≡ 54 → ⊥
 
--- neither white space nor, behind a gap, a digit
+-- neither white space nor, after a gap, a digit
 abbrev pub IsNotAllowed : SizeLimits → List ℕ → ℕ → Type 0
-IsNotAllowed limits front b = (is_white b ≡ false) × ((front ≡ 80 ∷ 54 ∷ []) ⊎ (IsOpen limits front × (is_ascii_digit b ≡ false)))
+IsNotAllowed limits front b = (is_white b ≡ false) ×
+    ((front ≡ 80 ∷ 54 ∷ []) ⊎ (IsOpen limits front × (is_ascii_digit b ≡ false)))
 
--- the number behind so many others isn't what it may be, and a white space byte ends it that the longest header still holds
+-- the number after so many others isn't what it may be, and a white space byte ends it that the
+-- longest header still holds
 abbrev pub IsOutOfRange : SizeLimits → ℕ → List ℕ → Type 0
-IsOutOfRange limits k bytes = (front : List ℕ) × (end : ℕ) × (rest : List ℕ) × (n : ℕ) × (bytes ≡ front ++ (end ∷ rest))
-    × EndsInNumber (HasNumbers limits k) n front × (IsInRange limits k n → ⊥) × (is_white end ≡ true) × (length front < header_limit)
+IsOutOfRange limits k bytes = (front : List ℕ) × (end : ℕ) × (rest : List ℕ) × (n : ℕ) ×
+    (bytes ≡ front ++ (end ∷ rest))
+    × EndsInNumber (HasNumbers limits k) n front × (IsInRange limits k n → ⊥) ×
+    (is_white end ≡ true) × (length front < header_limit)
 
 -- right as far as it goes, and no whole file
 abbrev pub IsUnfinished : SizeLimits → List ℕ → Type 0
-IsUnfinished limits bytes = (bytes ≡ []) ⊎ ((bytes ≡ 80 ∷ []) ⊎ ((bytes ≡ 80 ∷ 54 ∷ []) ⊎ ((IsOpen limits bytes × (length bytes < header_limit))
-    ⊎ ((front : List ℕ) × (half : List ℕ) × (bytes ≡ front ++ half) × LacksSamples limits front × (length half < 2)))))
+IsUnfinished limits bytes = (bytes ≡ []) ⊎
+    ((bytes ≡ 80 ∷ []) ⊎ ((bytes ≡ 80 ∷ 54 ∷ []) ⊎
+    ((IsOpen limits bytes × (length bytes < header_limit))
+    ⊎ ((front : List ℕ) × (half : List ℕ) × (bytes ≡ front ++ half) × LacksSamples limits front ×
+    (length half < 2)))))
 
--- The file has the fault. What follows the byte that shows it, the last that is named here, may be anything; of Truncated
--- nothing follows.
-abbrev pub HasFault : SizeLimits → List ℕ → Fault → Type 0
+-- The file has the fault. What follows the byte that shows it, the last that is named here, may be
+-- anything; of Truncated nothing follows.
+abbrev pub HasFault : SizeLimits → List ℕ → FrameFault → Type 0
 HasFault limits bytes NotPpm = IsNotP6 bytes
-HasFault limits bytes (BadHeader place) = (front : List ℕ) × (b : ℕ) × (rest : List ℕ) × (bytes ≡ front ++ (b ∷ rest))
+HasFault limits bytes (BadHeader place) =
+    (front : List ℕ) × (b : ℕ) × (rest : List ℕ) × (bytes ≡ front ++ (b ∷ rest))
     × (length front ≡ place) × (place < header_limit) × IsNotAllowed limits front b
-HasFault limits bytes HeaderTooLong = (front : List ℕ) × (rest : List ℕ) × (bytes ≡ front ++ rest) × (length front ≡ header_limit) × IsOpen limits front
+HasFault limits bytes HeaderTooLong =
+    (front : List ℕ) × (rest : List ℕ) × (bytes ≡ front ++ rest) ×
+    (length front ≡ header_limit) × IsOpen limits front
 HasFault limits bytes WidthOutOfRange = IsOutOfRange limits 0 bytes
 HasFault limits bytes HeightOutOfRange = IsOutOfRange limits 1 bytes
 HasFault limits bytes WrongMaxval = IsOutOfRange limits 2 bytes
-HasFault limits bytes (SampleTooLarge place) = (front : List ℕ) × (pair : Pair) × (rest : List ℕ) × (bytes ≡ front ++ (pair_bytes pair ++ rest))
+HasFault limits bytes (SampleTooLarge place) =
+    (front : List ℕ) × (pair : Pair) × (rest : List ℕ) ×
+    (bytes ≡ front ++ (pair_bytes pair ++ rest))
     × (length front ≡ place) × LacksSamples limits front × (4095 < pair_value pair)
 HasFault limits bytes (Truncated seen) = (length bytes ≡ seen) × IsUnfinished limits bytes
-HasFault limits bytes TrailingBytes = (front : List ℕ) × (b : ℕ) × (rest : List ℕ) × (bytes ≡ front ++ (b ∷ rest)) × HasAllSamples limits front
+HasFault limits bytes TrailingBytes =
+    (front : List ℕ) × (b : ℕ) × (rest : List ℕ) ×
+    (bytes ≡ front ++ (b ∷ rest)) × HasAllSamples limits front

@@ -1,14 +1,20 @@
 -- Reading a file from left to right: the picture that its bytes spell, or the first fault.
-use Rattle.std.specs.Prelude.{ℕ, zero, suc, ◌+◌, ◌*◌, ◌-◌, ◌^◌, min, List, [], ◌∷◌, Option, Some, None, Result, Ok, Err, nat_lt, nat_le, ◌==◌, ◌&&◌, if◌then◌else◌}
+use Rattle.std.specs.Prelude.{ℕ, zero, suc, ◌+◌, ◌*◌, ◌-◌, ◌^◌, min, List, [], ◌∷◌, Option, Some}
+use Rattle.std.specs.Prelude.{None, Result, Ok, Err, nat_lt, nat_le, ◌==◌, ◌&&◌, if◌then◌else◌}
 use Rattle.std.specs.Char.{is_ascii_digit}
 use Rattle.pnm_frames.specs.declared.limits.SizeLimits.{SizeLimits}
-use Rattle.pnm_frames.specs.Fault.{Fault, NotPpm, BadHeader, HeaderTooLong, WrongMaxval, WidthOutOfRange, HeightOutOfRange, SampleTooLarge, Truncated, TrailingBytes, ◌>>=◌}
+use Rattle.pnm_frames.specs.declared.fault.FrameFault.{FrameFault}
+use Rattle.pnm_frames.specs.declared.fault.FrameFault.TheVariants.{NotPpm, BadHeader, HeaderTooLong}
+use Rattle.pnm_frames.specs.declared.fault.FrameFault.TheVariants.{WrongMaxval, WidthOutOfRange}
+use Rattle.pnm_frames.specs.declared.fault.FrameFault.TheVariants.{HeightOutOfRange, SampleTooLarge}
+use Rattle.pnm_frames.specs.declared.fault.FrameFault.TheVariants.{Truncated, TrailingBytes}
+use Rattle.pnm_frames.specs.Fault.{◌>>=◌}
 use Rattle.pnm_frames.specs.Grammar.{is_white, header_limit}
 use Rattle.pnm_frames.specs.Picture.{Picture}
 
 -- a value, and where reading goes on: the next place and the bytes from there
 abbrev pub Read : Type 0 → Type 0
-Read A = Result (A × ℕ × List ℕ) Fault
+Read A = Result (A × ℕ × List ℕ) FrameFault
 
 -- one more header byte is needed at the end of a file
 abbrev pub ended_at : {A : Type 0} → ℕ → Read A
@@ -27,7 +33,7 @@ magic_at at bytes = do
   gap ← if second.0 == 54 then byte_at second.1 second.2 else Err NotPpm
   if is_white gap.0 then Ok (tt, gap.1, gap.2) else Err (BadHeader second.1)
 
--- further white space, and the byte behind it
+-- further white space, and the byte after it
 abbrev pub white_at : ℕ → List ℕ → Read ℕ
 white_at at [] = ended_at at
 white_at at (b ∷ bytes) =
@@ -41,7 +47,8 @@ digits_at n at [] = ended_at at
 digits_at n at (b ∷ bytes) =
     if nat_lt at header_limit
     then (if is_white b then Ok (n, suc at, bytes)
-    else (if is_ascii_digit b then digits_at (10 * n + (b - 48)) (suc at) bytes else Err (BadHeader at)))
+    else (if is_ascii_digit b then digits_at (10 * n + (b - 48)) (suc at) bytes else Err
+    (BadHeader at)))
     else Err HeaderTooLong
 
 -- a number of 2^32 or more as 2^32
@@ -52,7 +59,8 @@ capped number = number >>= λ read. Ok (min read.0 (2 ^ 32), read.1, read.2)
 unfoldable pub number_at : ℕ → List ℕ → Read ℕ
 number_at at bytes = do
   first ← white_at at bytes
-  if is_ascii_digit first.0 then digits_at (first.0 - 48) first.1 first.2 else Err (BadHeader (first.1 - 1))
+  if is_ascii_digit first.0 then digits_at (first.0 - 48) first.1 first.2 else Err
+      (BadHeader (first.1 - 1))
 
 -- the same number, and whether it is within a range
 unfoldable pub ranged_at : ℕ → ℕ → ℕ → List ℕ → Read (Option ℕ)
@@ -60,7 +68,7 @@ ranged_at low high at bytes = do
   number ← number_at at bytes
   Ok ((if nat_le low number.0 && nat_le number.0 high then Some number.0 else None), number.1, number.2)
 
-abbrev pub or_fault : {A : Type 0} → Fault → Option A → Result A Fault
+abbrev pub or_fault : {A : Type 0} → FrameFault → Option A → Result A FrameFault
 or_fault fault None = Err fault
 or_fault fault (Some x) = Ok x
 
@@ -77,7 +85,7 @@ header_at limits bytes = do
   Ok ((w, h), maxval.1, maxval.2)
 
 -- so many samples, each judged when both its bytes are there
-abbrev pub samples_at : ℕ → ℕ → List ℕ → Result (List ℕ × List ℕ) Fault
+abbrev pub samples_at : ℕ → ℕ → List ℕ → Result (List ℕ × List ℕ) FrameFault
 samples_at zero at bytes = Ok ([], bytes)
 samples_at (suc n) at [] = Err (Truncated at)
 samples_at (suc n) at (high ∷ []) = Err (Truncated (suc at))
@@ -94,12 +102,12 @@ plane_of pick (x ∷ y ∷ []) = []
 plane_of pick (x ∷ y ∷ z ∷ samples) = pick x y z ∷ plane_of pick samples
 
 -- nothing more
-abbrev pub ended : {A : Type 0} → A → List ℕ → Result A Fault
+abbrev pub ended : {A : Type 0} → A → List ℕ → Result A FrameFault
 ended value [] = Ok value
 ended value (b ∷ bytes) = Err TrailingBytes
 
 -- the picture of all the bytes
-unfoldable pub frame_of : SizeLimits → List ℕ → Result Picture Fault
+unfoldable pub frame_of : SizeLimits → List ℕ → Result Picture FrameFault
 frame_of limits bytes = do
   header ← header_at limits bytes
   samples ← samples_at (3 * (header.0.0 * header.0.1)) header.1 header.2

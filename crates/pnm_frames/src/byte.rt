@@ -9,7 +9,8 @@ pub fn read_byte<F: Frames>(f: &mut F) -> Result<Option<u8>, Failed>
     requires working { F.has_failed f.old ≡ false }
     requires begun { IsTrue (F.reading f.old).is_begun }
     ensures next { IfOk result (λ byte. IsSome (F.source f.old).files →
-        MatchOption byte ((F.reading f.old).left ≡ []) (λ b. (F.reading f.old).left ≡ b ∷ (F.reading f.new).left)) }
+        MatchOption byte ((F.reading f.old).left ≡ [])
+        (λ b. (F.reading f.old).left ≡ b ∷ (F.reading f.new).left)) }
     ensures keeps { ReadsOn (F.source f.old) (F.source f.new) (F.reading f.old) (F.reading f.new) }
     ensures failed { F.has_failed f.new ≡ is_err result }
 {

@@ -1,11 +1,13 @@
 //! Frames as binary PPM files: ppm(5), magic `P6`, maxval 4095, the samples X', Y' and Z' of each
 //! pixel in two bytes, high byte first. Comments aren't in the grammar.
 //!
-//! `read_frame` answers a frame exactly where the bytes of a begun file spell a picture within the
-//! limits, and then that picture (`Spells` in specs/Grammar.antt). Any other file is refused by its
-//! first fault in reading order, with its place in bytes (`frame_of` in specs/Reading.antt). A caller
-//! that takes one row after the other has the same from `read_header`, `read_row` and `expect_end`. The
-//! clauses of `first_fault` say that the fault is the first, and at which byte it is told.
+//! `read_frame` returns a frame exactly if the bytes of a begun file spell a picture within the
+//! limits, and then that picture (`Spells` in specs/Grammar.antt). Any other file is refused for
+//! its first fault in reading order, a `FrameFault` with its place in bytes (`frame_of` in
+//! specs/Reading.antt). A refusal that isn't for the file is its source's failure, or out of
+//! memory. A caller that takes one row after the other has the same from `read_header`, `read_row`
+//! and `expect_end`. The clauses of `first_fault` say that the fault is the first, and at which
+//! byte it shows.
 //!
 //! ```
 //! frames.begin(0)?;
@@ -15,6 +17,7 @@
 #![tactic(auto)]
 
 mod byte;
+mod fault;
 mod frame;
 mod header;
 mod law;
@@ -25,6 +28,7 @@ mod refusal;
 #[cfg(test)]
 mod tests;
 
+pub use fault::FrameFault;
 pub use frame::Frame;
 pub use header::{Header, read_header};
 pub use law::first_fault;

@@ -1,12 +1,16 @@
 // The raster: three samples a pixel, row by row.
-ghost use Rattle.std.specs.Prelude.{ℕ, ◌+◌, IfErr, OnErr, ◌≡◌, false, ◌≤◌, ◌<◌, ◌^◌, ◌*◌, ◌++◌, ◌↔◌, IsTrue, IsSome, All, length, OnOk, IfOk};
+ghost use Rattle.std.specs.Prelude.{ℕ, ◌+◌, IfErr, OnErr, ◌≡◌, false, ◌≤◌, ◌<◌, ◌^◌, ◌*◌, ◌++◌};
+ghost use Rattle.std.specs.Prelude.{◌↔◌, IsTrue, IsSome, All, length, OnOk, IfOk};
 ghost use Rattle.std.specs.List.{flat_map};
+ghost use Rattle.cine_nums.specs.Profile.{max_height_of, max_width_of};
+ghost use Rattle.cine_nums.specs.declared.profile.Profile.TheVariants.{FourK};
 ghost use Rattle.pnm_frames.specs.Fault.{Fails, Gives, is_source, IsOfEnd, IsOfRow, fault_of};
 ghost use Rattle.pnm_frames.specs.Keeps.{ReadsOn};
 ghost use Rattle.pnm_frames.specs.Picture.{IsSample, interleaved, sample};
 ghost use Rattle.pnm_frames.specs.Reading.{ended, samples_at};
 
 use crate::byte::read_byte;
+use crate::fault::FrameFault;
 use crate::frame::Frame;
 use crate::header::Header;
 use crate::refusal::FrameRefusal;
@@ -40,25 +44,26 @@ fn decode_row(bytes: &[u8], row: &mut [u16])
 fn row_fault(bytes: &[u8], at: u32) -> FrameRefusal
     requires bytes { length bytes.now ≤ 2 ^ 16 }
     requires at { at ≤ 60000000 }
-    ensures fault { (count : ℕ) → length bytes.now < 2 * count → Fails result (samples_at count at bytes.now) }
+    ensures fault { (count : ℕ) → length bytes.now < 2 * count →
+        Fails result (samples_at count at bytes.now) }
     ensures refusal { IsOfRow result }
     ensures tells { IsSome (fault_of result) }
 {
     for i in 0..bytes.len() / 2 {
         if bytes[2 * i] as u32 * 256 + bytes[2 * i + 1] as u32 > 4095 {
-            return FrameRefusal::SampleTooLarge(at + 2 * i as u32);
+            return FrameRefusal::Fault(FrameFault::SampleTooLarge(at + 2 * i as u32));
         }
     }
-    FrameRefusal::Truncated(at + bytes.len() as u32)
+    FrameRefusal::Fault(FrameFault::Truncated(at + bytes.len() as u32))
 }
 
 /// Reads as many samples as the row has, through a scratch buffer of two bytes a sample, from the
-/// place of the next byte on, and moves the place behind them.
+/// place of the next byte on, and moves the place past them.
 ///
 /// The first sample that is above 4095 or isn't whole decides: it is refused as SampleTooLarge with
-/// the place of its first byte, or as Truncated with the number of the file's bytes. A failed read is
-/// refused as Source at once. After a refusal the place is as it was, and the scratch buffer and the
-/// row may hold anything. Takes no memory.
+/// the place of its first byte, or as Truncated with the number of the file's bytes. A failed read
+/// is refused as Source at once. After a refusal the place is as it was, and the scratch buffer and
+/// the row may hold anything. Takes no memory.
 pub fn read_row<F: Frames>(
     f: &mut F,
     at: &mut u32,
@@ -70,7 +75,8 @@ pub fn read_row<F: Frames>(
     requires scratch { length scratch.old ≡ 2 * length row.old }
     requires row { length row.old ≤ 12288 }
     requires at { at.old ≤ 60000000 }
-    ensures reads { IsSome (F.source f.old).files → Gives (λ _. (row.new, (F.reading f.new).left)) result
+    ensures reads { IsSome (F.source f.old).files →
+        Gives (λ _. (row.new, (F.reading f.new).left)) result
         (samples_at (length row.old) at.old (F.reading f.old).left) }
     ensures spelled { OnOk result (IsSome (F.source f.old).files →
         (F.reading f.old).left ≡ flat_map sample row.new ++ (F.reading f.new).left) }
@@ -99,14 +105,15 @@ pub fn read_row<F: Frames>(
 pub fn expect_end<F: Frames>(f: &mut F) -> Result<(), FrameRefusal>
     requires working { F.has_failed f.old ≡ false }
     requires begun { IsTrue (F.reading f.old).is_begun }
-    ensures reads { IsSome (F.source f.old).files → Gives (λ nothing. nothing) result (ended tt (F.reading f.old).left) }
+    ensures reads { IsSome (F.source f.old).files →
+        Gives (λ nothing. nothing) result (ended tt (F.reading f.old).left) }
     ensures refusals { IfErr result IsOfEnd }
     ensures keeps { ReadsOn (F.source f.old) (F.source f.new) (F.reading f.old) (F.reading f.new) }
     ensures failed { F.has_failed f.new ≡ is_source result }
 {
     match read_byte(f)? {
         None => Ok(()),
-        Some(_) => Err(FrameRefusal::TrailingBytes),
+        Some(_) => Err(FrameRefusal::Fault(FrameFault::TrailingBytes)),
     }
 }
 
@@ -136,8 +143,8 @@ fn read_rows<F: Frames>(
 ) -> Result<(), FrameRefusal>
     requires working { F.has_failed f.old ≡ false }
     requires begun { IsTrue (F.reading f.old).is_begun }
-    requires width { header.width ≤ 4096 }
-    requires size { header.width * header.height ≤ 4096 * 2160 }
+    requires width { header.width ≤ max_width_of FourK }
+    requires size { header.width * header.height ≤ max_width_of FourK * max_height_of FourK }
     requires bytes { header.bytes ≤ 4096 }
     requires row { length row.old ≡ 3 * header.width }
     requires scratch { length scratch.old ≡ 2 * length row.old }
@@ -148,7 +155,8 @@ fn read_rows<F: Frames>(
         Gives (λ _. (interleaved x.new y.new z.new, (F.reading f.new).left)) result
         (samples_at (3 * (header.width * header.height)) header.bytes (F.reading f.old).left) }
     ensures spelled { OnOk result (IsSome (F.source f.old).files →
-        (F.reading f.old).left ≡ flat_map sample (interleaved x.new y.new z.new) ++ (F.reading f.new).left) }
+        (F.reading f.old).left ≡ flat_map sample (interleaved x.new y.new z.new)
+        ++ (F.reading f.new).left) }
     ensures x_range { OnOk result (All IsSample x.new) }
     ensures y_range { OnOk result (All IsSample y.new) }
     ensures z_range { OnOk result (All IsSample z.new) }
@@ -180,14 +188,18 @@ pub fn read_raster<F: Frames>(
 ) -> Result<Frame, FrameRefusal>
     requires working { F.has_failed f.old ≡ false }
     requires begun { IsTrue (F.reading f.old).is_begun }
-    requires width { header.width ≤ 4096 }
-    requires height { header.height ≤ 2160 }
+    requires width { header.width ≤ max_width_of FourK }
+    requires height { header.height ≤ max_height_of FourK }
     requires bytes { header.bytes ≤ 4096 }
     ensures reads { IsSome (F.source f.old).files →
-        Gives (λ frame. (interleaved frame.x.items frame.y.items frame.z.items, (F.reading f.new).left)) result
+        Gives (λ frame. (
+          interleaved frame.x.items frame.y.items frame.z.items,
+          (F.reading f.new).left,
+        )) result
         (samples_at (3 * (header.width * header.height)) header.bytes (F.reading f.old).left) }
     ensures spelled { IfOk result (λ frame. IsSome (F.source f.old).files → (F.reading f.old).left
-        ≡ flat_map sample (interleaved frame.x.items frame.y.items frame.z.items) ++ (F.reading f.new).left) }
+        ≡ flat_map sample (interleaved frame.x.items frame.y.items frame.z.items)
+        ++ (F.reading f.new).left) }
     ensures width { IfOk result (λ frame. frame.width ≡ header.width) }
     ensures height { IfOk result (λ frame. frame.height ≡ header.height) }
     ensures keeps { ReadsOn (F.source f.old) (F.source f.new) (F.reading f.old) (F.reading f.new) }

@@ -3,6 +3,7 @@ ghost use Rattle.std.specs.Prelude.{◌≡◌, ◌≤◌, false, IsTrue, IfOk};
 ghost use Rattle.cine_ports.specs.Source.{Reading};
 
 use super::*;
+use cine_nums::Profile;
 use cine_ports::{Frames, MemoryFrame, MemoryFrames, is_frame_list};
 use std::alloc::{AllocError, Global};
 use std::test::Fail;
@@ -22,77 +23,77 @@ const LIMITS: SizeLimits = SizeLimits {
 };
 
 /// Files whose header is refused, or ends too early.
-const HEADER_FAULTS: &[(&[u8], FrameRefusal)] = &[
-    (b"", FrameRefusal::Truncated(0)),
-    (b"p6", FrameRefusal::NotPpm),
-    (b"P5\n1 1\n4095\n", FrameRefusal::NotPpm),
-    (b"P#", FrameRefusal::NotPpm),
-    (b"P61 1", FrameRefusal::BadHeader(2)),
-    (b"P6#", FrameRefusal::BadHeader(2)),
-    (b"P6\x0B", FrameRefusal::BadHeader(2)),
-    (b"P6\x0C", FrameRefusal::BadHeader(2)),
-    (b"P6\nx", FrameRefusal::BadHeader(3)),
-    (b"P6\n#\n1 1\n4095\n", FrameRefusal::BadHeader(3)),
-    (b"P6\n-1 1", FrameRefusal::BadHeader(3)),
-    (b"P6\n\x00", FrameRefusal::BadHeader(3)),
-    (b"P6\n1#\n1", FrameRefusal::BadHeader(4)),
-    (b"P6\n1\t\r\n #", FrameRefusal::BadHeader(8)),
-    (b"P6\n1 1/", FrameRefusal::BadHeader(6)),
-    (b"P6\n1 1:", FrameRefusal::BadHeader(6)),
-    (b"P6\n1 1\n4095#\n", FrameRefusal::BadHeader(11)),
-    (b"P6\n1 1\n4095\x08", FrameRefusal::BadHeader(11)),
+const HEADER_FAULTS: &[(&[u8], FrameFault)] = &[
+    (b"", FrameFault::Truncated(0)),
+    (b"p6", FrameFault::NotPpm),
+    (b"P5\n1 1\n4095\n", FrameFault::NotPpm),
+    (b"P#", FrameFault::NotPpm),
+    (b"P61 1", FrameFault::BadHeader(2)),
+    (b"P6#", FrameFault::BadHeader(2)),
+    (b"P6\x0B", FrameFault::BadHeader(2)),
+    (b"P6\x0C", FrameFault::BadHeader(2)),
+    (b"P6\nx", FrameFault::BadHeader(3)),
+    (b"P6\n#\n1 1\n4095\n", FrameFault::BadHeader(3)),
+    (b"P6\n-1 1", FrameFault::BadHeader(3)),
+    (b"P6\n\x00", FrameFault::BadHeader(3)),
+    (b"P6\n1#\n1", FrameFault::BadHeader(4)),
+    (b"P6\n1\t\r\n #", FrameFault::BadHeader(8)),
+    (b"P6\n1 1/", FrameFault::BadHeader(6)),
+    (b"P6\n1 1:", FrameFault::BadHeader(6)),
+    (b"P6\n1 1\n4095#\n", FrameFault::BadHeader(11)),
+    (b"P6\n1 1\n4095\x08", FrameFault::BadHeader(11)),
     // The byte that ends a number is judged before the number.
-    (b"P6\n2049x", FrameRefusal::BadHeader(7)),
-    (b"P6\n1 0x", FrameRefusal::BadHeader(6)),
-    (b"P6\n1 1 255x", FrameRefusal::BadHeader(10)),
-    (b"P6\n2049", FrameRefusal::Truncated(7)),
-    // The first number that is wrong is told.
-    (b"P6\n0 0 0 ", FrameRefusal::WidthOutOfRange),
-    (b"P6\n2049 1\n4095\n", FrameRefusal::WidthOutOfRange),
-    (b"P6\n4294967297 1\n4095\n", FrameRefusal::WidthOutOfRange),
+    (b"P6\n2049x", FrameFault::BadHeader(7)),
+    (b"P6\n1 0x", FrameFault::BadHeader(6)),
+    (b"P6\n1 1 255x", FrameFault::BadHeader(10)),
+    (b"P6\n2049", FrameFault::Truncated(7)),
+    // The first number that is wrong is reported.
+    (b"P6\n0 0 0 ", FrameFault::WidthOutOfRange),
+    (b"P6\n2049 1\n4095\n", FrameFault::WidthOutOfRange),
+    (b"P6\n4294967297 1\n4095\n", FrameFault::WidthOutOfRange),
     (
         b"P6\n18446744073709551617 1\n4095\n",
-        FrameRefusal::WidthOutOfRange,
+        FrameFault::WidthOutOfRange,
     ),
-    (b"P6\n1 0\n4095\n", FrameRefusal::HeightOutOfRange),
-    (b"P6\n2048 1081\n65535\n", FrameRefusal::HeightOutOfRange),
-    (b"P6\n1 1\n65535\n", FrameRefusal::WrongMaxval),
-    (b"P6\n1 1\n4294971391\n", FrameRefusal::WrongMaxval),
-    (b"P6\n1 1\n4094\n\xFF\xFF", FrameRefusal::WrongMaxval),
-    (b"P6\n1 1\n4096\n", FrameRefusal::WrongMaxval),
+    (b"P6\n1 0\n4095\n", FrameFault::HeightOutOfRange),
+    (b"P6\n2048 1081\n65535\n", FrameFault::HeightOutOfRange),
+    (b"P6\n1 1\n65535\n", FrameFault::WrongMaxval),
+    (b"P6\n1 1\n4294971391\n", FrameFault::WrongMaxval),
+    (b"P6\n1 1\n4094\n\xFF\xFF", FrameFault::WrongMaxval),
+    (b"P6\n1 1\n4096\n", FrameFault::WrongMaxval),
 ];
 
 /// Files whose raster is refused, or is too short or too long.
-const RASTER_FAULTS: &[(&[u8], FrameRefusal)] = &[
+const RASTER_FAULTS: &[(&[u8], FrameFault)] = &[
     (
         b"P6\n1 1\n4095\n\x08\x00\x10\x00\x08\x00",
-        FrameRefusal::SampleTooLarge(14),
+        FrameFault::SampleTooLarge(14),
     ),
-    (b"P6\n1 1\n4095\n\x10\x00", FrameRefusal::SampleTooLarge(12)),
-    (b"P6\n1 1\n4095\n\xFF", FrameRefusal::Truncated(13)),
+    (b"P6\n1 1\n4095\n\x10\x00", FrameFault::SampleTooLarge(12)),
+    (b"P6\n1 1\n4095\n\xFF", FrameFault::Truncated(13)),
     (
         b"P6\n1 1\n4095\n\x00\x00\x00\x00\xFF\xFF\xFF",
-        FrameRefusal::SampleTooLarge(16),
+        FrameFault::SampleTooLarge(16),
     ),
     (
         b"P6\n1 2\n4095\n\x00\x00\x00\x00\x00\x00",
-        FrameRefusal::Truncated(18),
+        FrameFault::Truncated(18),
     ),
     (
         b"P6\n1 2\n4095\n\x00\x00\x00\x00\x00\x00\x00\x00\x10\x00\xFF\xFF",
-        FrameRefusal::SampleTooLarge(20),
+        FrameFault::SampleTooLarge(20),
     ),
     (
         b"P6\n1 1\n4095\n\x08\x00\x08\x00\x08",
-        FrameRefusal::Truncated(17),
+        FrameFault::Truncated(17),
     ),
     (
         b"P6\n1 1\n4095\n\x08\x00\x08\x00\x08\x00\x00",
-        FrameRefusal::TrailingBytes,
+        FrameFault::TrailingBytes,
     ),
     (
         b"P6\n1 1\n4095\n\n\x00\x08\x00\x08\x00\x08\x00",
-        FrameRefusal::TrailingBytes,
+        FrameFault::TrailingBytes,
     ),
 ];
 
@@ -120,10 +121,14 @@ fn begun(alloc: Global, bytes: &[u8], failing: &[u32], piece: u32) -> Result<Mem
     Ok(frames)
 }
 
-/// Why the whole file is refused, or None where it is read.
-fn refusal(alloc: Global, bytes: &[u8]) -> Result<Option<FrameRefusal>, Fail> {
+/// The fault for which the whole file is refused, or None where it is read.
+fn fault(alloc: Global, bytes: &[u8]) -> Result<Option<FrameFault>, Fail> {
     let mut frames = begun(alloc, bytes, &[], 5)?;
-    Ok(read_frame(alloc, &mut frames, LIMITS).err())
+    match read_frame(alloc, &mut frames, LIMITS) {
+        Ok(_) => Ok(None),
+        Err(FrameRefusal::Fault(fault)) => Ok(Some(fault)),
+        Err(_) => Err(Fail::new("no fault of the file")),
+    }
 }
 
 #[test]
@@ -132,8 +137,11 @@ fn a_faulty_header_is_refused(rt: HostRuntime) -> Result<(), Fail> {
     for (bytes, want) in HEADER_FAULTS {
         let mut frames = begun(alloc, bytes, &[], 3)?;
         let header = read_header(&mut frames, LIMITS);
-        assert!(rt; header == Err(*want), "header of {bytes:?}");
-        assert!(rt; refusal(alloc, bytes)? == Some(*want), "frame of {bytes:?}");
+        assert!(rt;
+            header == Err(FrameRefusal::Fault(*want)),
+            "header of {bytes:?}"
+        );
+        assert!(rt; fault(alloc, bytes)? == Some(*want), "frame of {bytes:?}");
     }
     Ok(())
 }
@@ -142,7 +150,7 @@ fn a_faulty_header_is_refused(rt: HostRuntime) -> Result<(), Fail> {
 fn a_faulty_raster_is_refused(rt: HostRuntime) -> Result<(), Fail> {
     let alloc = rt.alloc();
     for (bytes, want) in RASTER_FAULTS {
-        assert!(rt; refusal(alloc, bytes)? == Some(*want), "{bytes:?}");
+        assert!(rt; fault(alloc, bytes)? == Some(*want), "{bytes:?}");
     }
     Ok(())
 }
@@ -152,13 +160,10 @@ fn every_shorter_file_is_truncated(rt: HostRuntime) -> Result<(), Fail> {
     let alloc = rt.alloc();
     for file in [PIXEL, COLUMN, ROW] {
         for n in 0..file.len() {
-            let want = Some(FrameRefusal::Truncated(n as u32));
-            assert!(rt;
-                refusal(alloc, &file[..n])? == want,
-                "{n} bytes of {file:?}"
-            );
+            let want = Some(FrameFault::Truncated(n as u32));
+            assert!(rt; fault(alloc, &file[..n])? == want, "{n} bytes of {file:?}");
         }
-        assert!(rt; refusal(alloc, file)?.is_none(), "{file:?}");
+        assert!(rt; fault(alloc, file)?.is_none(), "{file:?}");
     }
     Ok(())
 }
@@ -174,24 +179,24 @@ fn long_header(alloc: Global, byte: u8, count: u32, end: &[u8]) -> Result<Vec<u8
 }
 
 /// The longest header has 4,096 bytes.
-const LONG_HEADERS: &[(u8, u32, &[u8], Option<FrameRefusal>)] = &[
-    (b' ', 4092, b"", Some(FrameRefusal::Truncated(4095))),
-    (b' ', 4093, b"", Some(FrameRefusal::HeaderTooLong)),
-    (b' ', 4093, b"1", Some(FrameRefusal::HeaderTooLong)),
-    (b' ', 4092, b"#", Some(FrameRefusal::BadHeader(4095))),
-    (b'0', 4093, b"", Some(FrameRefusal::HeaderTooLong)),
-    (b'9', 4000, b" ", Some(FrameRefusal::WidthOutOfRange)),
-    (b'9', 4092, b" ", Some(FrameRefusal::WidthOutOfRange)),
-    (b'9', 4093, b" ", Some(FrameRefusal::HeaderTooLong)),
-    (b'9', 5000, b" ", Some(FrameRefusal::HeaderTooLong)),
-    (b' ', 4085, b"1 1 255\n", Some(FrameRefusal::WrongMaxval)),
+const LONG_HEADERS: &[(u8, u32, &[u8], Option<FrameFault>)] = &[
+    (b' ', 4092, b"", Some(FrameFault::Truncated(4095))),
+    (b' ', 4093, b"", Some(FrameFault::HeaderTooLong)),
+    (b' ', 4093, b"1", Some(FrameFault::HeaderTooLong)),
+    (b' ', 4092, b"#", Some(FrameFault::BadHeader(4095))),
+    (b'0', 4093, b"", Some(FrameFault::HeaderTooLong)),
+    (b'9', 4000, b" ", Some(FrameFault::WidthOutOfRange)),
+    (b'9', 4092, b" ", Some(FrameFault::WidthOutOfRange)),
+    (b'9', 4093, b" ", Some(FrameFault::HeaderTooLong)),
+    (b'9', 5000, b" ", Some(FrameFault::HeaderTooLong)),
+    (b' ', 4085, b"1 1 255\n", Some(FrameFault::WrongMaxval)),
     (b' ', 4084, b"1 1 4095\n\x00\x00\x00\x00\x00\x00", None),
     (b'0', 4084, b"1 1 4095\n\x00\x00\x00\x00\x00\x00", None),
     (
         b' ',
         4085,
         b"1 1 4095\n\x00\x00\x00\x00\x00\x00",
-        Some(FrameRefusal::HeaderTooLong),
+        Some(FrameFault::HeaderTooLong),
     ),
 ];
 
@@ -201,7 +206,7 @@ fn a_header_has_at_most_4096_bytes(rt: HostRuntime) -> Result<(), Fail> {
     for (byte, count, end, want) in LONG_HEADERS {
         let bytes = long_header(alloc, *byte, *count, end)?;
         assert!(rt;
-            refusal(alloc, bytes.as_slice())? == *want,
+            fault(alloc, bytes.as_slice())? == *want,
             "{count} times {byte} and {end:?}"
         );
     }
@@ -241,9 +246,9 @@ fn grey(alloc: Global, header: &[u8], count: u32) -> Result<Vec<u8>, AllocError>
 fn sides_up_to_the_limits_are_read(rt: HostRuntime) -> Result<(), Fail> {
     let alloc = rt.alloc();
     let wide = grey(alloc, b"P6\n2048 1\n4095\n", 2048)?;
-    assert!(rt; refusal(alloc, wide.as_slice())?.is_none());
+    assert!(rt; fault(alloc, wide.as_slice())?.is_none());
     let high = grey(alloc, b"P6\n1 1080\n4095\n", 1080)?;
-    assert!(rt; refusal(alloc, high.as_slice())?.is_none());
+    assert!(rt; fault(alloc, high.as_slice())?.is_none());
     let larger = SizeLimits {
         width: 4096,
         height: 2160,
@@ -258,6 +263,44 @@ fn sides_up_to_the_limits_are_read(rt: HostRuntime) -> Result<(), Fail> {
     let mut frames = begun(alloc, b"P6\n2049 1081\n4095\n", &[], 7)?;
     assert!(rt; read_header(&mut frames, larger).is_ok());
     Ok(())
+}
+
+#[test]
+fn the_largest_frame_is_read(rt: HostRuntime) -> Result<(), Fail> {
+    let alloc = rt.alloc();
+    let limits = SizeLimits {
+        width: Profile::FourK.max_width(),
+        height: Profile::FourK.max_height(),
+    };
+    let mut bytes = grey(alloc, b"P6\n4096 2160\n4095\n", 4096 * 2160 - 1)?;
+    bytes.extend_from_slice(b"\x00\x01\x00\x02\x0F\xFF".as_slice())?;
+    let mut frames = begun(alloc, bytes.as_slice(), &[], 1 << 20)?;
+    let frame = read_frame(alloc, &mut frames, limits)?;
+    assert!(rt; frame.width == 4096 && frame.height == 2160);
+    for (plane, last) in [(&frame.x, 1), (&frame.y, 2), (&frame.z, 4095)] {
+        assert_eq!(rt; plane.len(), 4096 * 2160);
+        assert_eq!(rt; plane.first().copied(), Some(2048));
+        assert_eq!(rt; plane.last().copied(), Some(last));
+    }
+    Ok(())
+}
+
+#[test]
+fn faults_are_numbered(rt: HostRuntime) {
+    let faults = [
+        FrameFault::NotPpm,
+        FrameFault::BadHeader(0),
+        FrameFault::HeaderTooLong,
+        FrameFault::WrongMaxval,
+        FrameFault::WidthOutOfRange,
+        FrameFault::HeightOutOfRange,
+        FrameFault::SampleTooLarge(0),
+        FrameFault::Truncated(0),
+        FrameFault::TrailingBytes,
+    ];
+    for i in 0..9 {
+        assert_eq!(rt; faults[i].number() as usize, i + 1);
+    }
 }
 
 #[test]

@@ -1,42 +1,62 @@
-use Rattle.std.proofs.Common.{◌≡◌, ℕ, ◌≤◌, replicate, ◌∷◌, [], ◌+◌, length, sym, subst, ◌∙◌, ap, arith}
-use Rattle.std.proofs.lemmas.List.{length-replicate}
+use Rattle.std.proofs.Common.{◌≡◌, ◌≤◌, ◌+◌, ◌++◌, ◌∷◌, [], ◌∙◌, ℕ, List, length, length-append}
+use Rattle.std.proofs.Common.{append_assoc, sym, ap, subst, take, arith}
+use Rattle.std.specs.List.{flat_map, AllByRecursion}
 use Rattle.cinema_markers.specs.MainHeader.{main_header_of}
-use Rattle.frame_encoder.specs.Codestream.{codestream, empty_parts, header_2k, tile_part, packet_count, part_length, eoc}
-use Rattle.frame_encoder.proofs.Appends.{five}
-use Rattle.frame_encoder.proofs.Packets.{empty_short}
+use Rattle.frame_coefficients.specs.BuiltIn.{built_in_steps}
+use Rattle.frame_encoder.specs.Empty.{empty_part, empty_part_lengths, empty_codestream}
+use Rattle.frame_encoder.specs.Encoded.{IsComponentLength}
+use Rattle.tile_parts.specs.Head.{eoc}
+use Rattle.frame_encoder.specs.Spell.{spell, header_for, part_indexes}
+use Rattle.frame_encoder.proofs.Lengths.{parts_short, components_short}
 use Rattle.frame_encoder.proofs.codestream.empty_codestream.Goals as goal
 
--- the bytes, by the number of packets that was counted
-made : (c : goal.In_ok-extend_from_slice) → c.extend_from_slice.new.self.items ≡ codestream c.args.width c.args.height (empty_parts c.packet_count-packets.result)
-unfolding codestream
-made c =
-    let n = c.packet_count-packets.result in
-    let packets = replicate n 0 in
-    let counted : length packets ≡ n = length-replicate n 0 in
-    let Headed : ℕ → Type 0 = λ n. c.in_ok-out.out.items ≡ main_header_of (header_2k c.args.width c.args.height ((14 + n) ∷ (14 + n) ∷ (14 + n) ∷ [])) in
-    five (main_header_of (header_2k c.args.width c.args.height (part_length packets ∷ part_length packets ∷ part_length packets ∷ [])))
-    (tile_part 0 3 packets) (tile_part 1 3 packets) (tile_part 2 3 packets) eoc
-    c.in_ok-out.out.items c.push_empty_part.new.out.items c.push_empty_part-2.new.out.items c.push_empty_part-3.new.out.items c.extend_from_slice.new.self.items
-    (subst Headed (sym counted) (c.in_ok-out.ensures.items ∙ c.as_slice.ensures.value ∙ c.main_header.ensures))
-    c.in_ok-push_empty_part.ensures c.in_ok-push_empty_part-2.ensures c.in_ok-push_empty_part-3.ensures c.in_ok-extend_from_slice.ensures.items
+-- a header, tile-parts and an end that were appended
+joined : (a b main parts end new : List ℕ) → a ≡ main → b ≡ a ++ parts → new ≡ b ++ end →
+    new ≡ main ++ (parts ++ end)
+joined a b main parts end new p q r =
+    r ∙ ap (λ bytes. bytes ++ end) (q ∙ ap (λ bytes. bytes ++ parts) p)
+    ∙ append_assoc main parts end
 
--- the number of packets is that of the frame's size
-packets_are : (c : goal.In_ok-extend_from_slice) → c.packet_count-packets.result ≡ packet_count c.args.width c.args.height
-packets_are c =
-    c.packet_count-packets.ensures.count ∙ ap (λ (w : ℕ). packet_count w c.new.result.height) c.new.ensures.width
-    ∙ ap (λ (h : ℕ). packet_count c.args.width h) c.new.ensures.height
+short : (main parts new : List ℕ) → new ≡ main ++ (parts ++ eoc) → length main ≤ 192 →
+    length parts ≤ 70770 → length new ≤ 1302083
+short main parts new is few some =
+    let whole = ap (λ (bytes : List ℕ). length bytes) is in
+    let first = length-append main (parts ++ eoc) in
+    let second = length-append parts eoc in
+    omega (arith, whole, first, second, few, some)
+
+made : (c : goal.After-drop-parts-2) →
+    c.extend_from_slice-2.new.self.items
+    ≡ c.as_slice-2.result.now ++ (c.as_slice-3.result.now ++ eoc)
+made c =
+    joined c.in_ok-bytes.bytes.items c.extend_from_slice.new.self.items c.as_slice-2.result.now c.as_slice-3.result.now eoc c.extend_from_slice-2.new.self.items
+    c.in_ok-bytes.ensures.items c.in_ok-extend_from_slice.ensures.items
+    (c.in_ok-extend_from_slice-2.ensures.items
+    ∙ ap (λ end. c.extend_from_slice.new.self.items ++ end) c.end_of_codestream.ensures)
 
 pub returns-clause-bytes : goal.returns-clause-bytes
+unfolding spell
 returns-clause-bytes c =
-    subst (λ (n : ℕ). c.extend_from_slice.new.self.items ≡ codestream c.args.width c.args.height (empty_parts n)) (packets_are c) (made c)
-
-pub returns-clause-part : goal.returns-clause-part
-returns-clause-part c =
-    ap (λ (n : ℕ). 14 + n) (packets_are c ∙ sym (length-replicate (packet_count c.args.width c.args.height) 0))
+    let g = c.args.geometry.now in
+    let steps = built_in_steps g.profile in
+    made c ∙ ap (λ main. main ++ (c.as_slice-3.result.now ++ eoc))
+    (c.as_slice-2.ensures.value ∙ c.main_header-header.ensures
+    ∙ ap (λ lengths. main_header_of (header_for g steps lengths)) c.in_ok-parts.ensures.lengths)
+    ∙ ap (λ parts. main_header_of (header_for g steps (empty_part_lengths g)) ++ (parts ++ eoc))
+    (c.as_slice-3.ensures.value ∙ c.in_ok-parts.ensures.bytes)
 
 pub returns-clause-frame_limit : goal.returns-clause-frame_limit
 returns-clause-frame_limit c =
-    let short = empty_short c.args.width c.args.height c.packet_count-packets.result c.packet_count-packets.ensures.few in
-    let e = made c in
-    let bound : length c.extend_from_slice.new.self.items ≤ 893 = rw e short in
-    omega (arith, bound)
+    let g = c.args.geometry.now in
+    let parts : length c.as_slice-3.result.now ≤ 70770 =
+    subst (λ (bytes : List ℕ). length bytes ≤ 70770)
+    (sym (c.as_slice-3.ensures.value ∙ c.in_ok-parts.ensures.bytes)) (parts_short g) in
+    short c.as_slice-2.result.now c.as_slice-3.result.now c.extend_from_slice-2.new.self.items
+    (made c) c.as_slice-2.ensures.fits parts
+
+pub returns-clause-component_limits : goal.returns-clause-component_limits
+returns-clause-component_limits c =
+    let g = c.args.geometry.now in
+    subst (λ (lengths : List ℕ). AllByRecursion (IsComponentLength g.profile) (take 3 lengths))
+    (sym (c.in_ok-part_lengths.ensures.items ∙ c.as_slice.ensures.value
+    ∙ c.in_ok-parts.ensures.lengths)) (components_short g)

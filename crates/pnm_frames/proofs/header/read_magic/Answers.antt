@@ -2,19 +2,24 @@ use Rattle.pnm_frames.proofs.Keeping.{keeps-then}
 use Rattle.pnm_frames.proofs.header.read_magic.Goals as goal
 
 pub returns-in_err-read_header_byte-2-clause-keeps : goal.returns-in_err-read_header_byte-2-clause-keeps
-returns-in_err-read_header_byte-2-clause-keeps g c = keeps-then _ _ _ _ _ _ c.read_header_byte.ensures.keeps c.read_header_byte-2.ensures.keeps
+returns-in_err-read_header_byte-2-clause-keeps g c =
+    keeps-then _ _ _ _ _ _ c.read_header_byte.ensures.keeps c.read_header_byte-2.ensures.keeps
 
 pub returns-then-branch-ne54-clause-keeps : goal.returns-then-branch-ne54-clause-keeps
-returns-then-branch-ne54-clause-keeps g c = keeps-then _ _ _ _ _ _ c.read_header_byte.ensures.keeps c.read_header_byte-2.ensures.keeps
+returns-then-branch-ne54-clause-keeps g c =
+    keeps-then _ _ _ _ _ _ c.read_header_byte.ensures.keeps c.read_header_byte-2.ensures.keeps
 
 pub returns-in_err-read_header_byte-3-clause-keeps : goal.returns-in_err-read_header_byte-3-clause-keeps
 returns-in_err-read_header_byte-3-clause-keeps g c =
-    keeps-then _ _ _ _ _ _ (keeps-then _ _ _ _ _ _ c.read_header_byte.ensures.keeps c.read_header_byte-2.ensures.keeps) c.read_header_byte-3.ensures.keeps
+    keeps-then _ _ _ _ _ _
+    (keeps-then _ _ _ _ _ _ c.read_header_byte.ensures.keeps c.read_header_byte-2.ensures.keeps) c.read_header_byte-3.ensures.keeps
 
 pub returns-then-not-is_white-clause-keeps : goal.returns-then-not-is_white-clause-keeps
 returns-then-not-is_white-clause-keeps g c =
-    keeps-then _ _ _ _ _ _ (keeps-then _ _ _ _ _ _ c.read_header_byte.ensures.keeps c.read_header_byte-2.ensures.keeps) c.read_header_byte-3.ensures.keeps
+    keeps-then _ _ _ _ _ _
+    (keeps-then _ _ _ _ _ _ c.read_header_byte.ensures.keeps c.read_header_byte-2.ensures.keeps) c.read_header_byte-3.ensures.keeps
 
 pub returns-clause-keeps : goal.returns-clause-keeps
 returns-clause-keeps g c =
-    keeps-then _ _ _ _ _ _ (keeps-then _ _ _ _ _ _ c.read_header_byte.ensures.keeps c.read_header_byte-2.ensures.keeps) c.read_header_byte-3.ensures.keeps
+    keeps-then _ _ _ _ _ _
+    (keeps-then _ _ _ _ _ _ c.read_header_byte.ensures.keeps c.read_header_byte-2.ensures.keeps) c.read_header_byte-3.ensures.keeps

@@ -7,9 +7,11 @@ use Rattle.pnm_frames.proofs.header.skip_white.Given as goal
 abbrev pub invariant-loop-b : goal.invariant-loop-b
 invariant-loop-b g l = record {
   reads : IsSome (g.F.Frames.source l.fn.f).files →
-      white_at l.fn.at (g.F.Frames.reading l.fn.f).left ≡ white_at l.at (g.F.Frames.reading l.f).left;
+      white_at l.fn.at (g.F.Frames.reading l.fn.f).left
+      ≡ white_at l.at (g.F.Frames.reading l.f).left;
   place : l.at ≤ 4096;
-  keeps : ReadsOn (g.F.Frames.source l.fn.f) (g.F.Frames.source l.f) (g.F.Frames.reading l.fn.f) (g.F.Frames.reading l.f);
+  keeps : ReadsOn (g.F.Frames.source l.fn.f) (g.F.Frames.source l.f) (g.F.Frames.reading l.fn.f)
+      (g.F.Frames.reading l.f);
   working : g.F.Frames.has_failed l.f ≡ false;
 }
 

@@ -10,7 +10,9 @@ pub returns-clause-fronts : goal.returns-clause-fronts
 returns-clause-fronts c = front-truncated
 
 pub returns-clause-ends : goal.returns-clause-ends
-returns-clause-ends c = λ limits bytes fault. (frame-told limits bytes fault, fault-shown limits bytes fault)
+returns-clause-ends c = λ limits bytes fault.
+    (frame-told limits bytes fault, fault-shown limits bytes fault)
 
 pub returns-clause-frames : goal.returns-clause-frames
-returns-clause-frames c = λ limits bytes. (λ frame. all-told limits bytes frame.0 frame.1, all-shown limits bytes)
+returns-clause-frames c = λ limits bytes.
+    (λ frame. all-told limits bytes frame.0 frame.1, all-shown limits bytes)

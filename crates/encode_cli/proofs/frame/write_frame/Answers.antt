@@ -1,0 +1,80 @@
+use Rattle.std.proofs.Common.{◌≡◌, ◌++◌, ◌∙◌, ◌<◌, ◌≤◌, ℕ, List, Option, Some, Ok, length, ap, sym}
+use Rattle.std.proofs.Common.{option_map, refl, arith, subst}
+use Rattle.cine_ports.specs.Source.{File}
+use Rattle.cine_ports.specs.WholePieces.{said_with}
+use Rattle.pnm_frames.specs.View.{picture_of}
+use Rattle.pnm_frames.specs.Picture.{Picture}
+use Rattle.frame_encoder.specs.declared.order.EncodeOrder.{EncodeOrder}
+use Rattle.frame_encoder.specs.Encoded.{Encoding, Encodes, encoding_of}
+use Rattle.frame_encoder.proofs.Lengths.{enough_lengths}
+use Rattle.encode_cli.specs.ReportLine.{ok_line}
+use Rattle.encode_cli.specs.Right.{accepted, IsAccepted, RightFor}
+use Rattle.encode_cli.proofs.Breaks.{output_broken, output_made, line_broken}
+use Rattle.encode_cli.proofs.frame.write_frame.Goals as goal
+
+is_accepted : (order : EncodeOrder) (suffix name : List ℕ) (p : Picture) (e : Encoding) →
+    Encodes order p e → IsAccepted order suffix name p (accepted order suffix name p e)
+is_accepted order suffix name p e encodes = record { encoding = e; encodes = encodes; is = refl }
+
+-- the output, by the name and the bytes that were written
+abbrev output : List ℕ → List ℕ → Option File
+output name bytes = Some (record { name = name; bytes = bytes })
+
+output_is : (name suffix bytes made shown : List ℕ) → shown ≡ name ++ suffix → bytes ≡ made →
+    output (name ++ suffix) made ≡ output shown bytes
+output_is name suffix bytes made shown p q =
+    sym (ap (λ (n : List ℕ). output n bytes) p ∙ ap (λ (b : List ℕ). output (name ++ suffix) b) q)
+
+pub ok_line-requires-clause-parts : goal.ok_line-requires-clause-parts
+ok_line-requires-clause-parts g c =
+    enough_lengths c.args.order.now (picture_of c.args.frame.now)
+    (encoding_of c.in_ok-made.made) c.in_ok-made.ensures.encodes
+
+pub ok_line-requires-clause-size : goal.ok_line-requires-clause-size
+ok_line-requires-clause-size g c = let short =
+    c.in_ok-made.ensures.encodes.frame_limit in omega (arith, short)
+
+pub returns-in-Err-clause-err : goal.returns-in-Err-clause-err
+returns-in-Err-clause-err g c =
+    let p = picture_of c.args.frame.now in
+    let e = encoding_of c.in_ok-made.made in
+    output_broken (RightFor c.args.order.now c.args.suffix.now c.args.name.now (Ok p))
+    (accepted c.args.order.now c.args.suffix.now c.args.name.now p e)
+    c.as_str.result.now c.as_slice.result.now (g.O.Outputs.kept c.args.outputs.now)
+    (g.O.Outputs.kept c.write_output.new.outputs) (g.S.Report.said c.args.report.now)
+    (is_accepted c.args.order.now c.args.suffix.now c.args.name.now p e c.in_ok-made.ensures.encodes)
+    (output_is c.args.name.now c.args.suffix.now c.as_slice.result.now e.bytes c.as_str.result.now
+    (c.as_str.ensures.value ∙ c.in_ok-output.ensures) c.as_slice.ensures.value)
+    c.requires.at_rest c.in-Err.ensures.err
+
+pub returns-in-Ok-say-clause-ok : goal.returns-in-Ok-say-clause-ok
+returns-in-Ok-say-clause-ok g c =
+    let p = picture_of c.args.frame.now in
+    let e = encoding_of c.in_ok-made.made in
+    let visit = accepted c.args.order.now c.args.suffix.now c.args.name.now p e in (
+      visit,
+      is_accepted c.args.order.now c.args.suffix.now c.args.name.now p e c.in_ok-made.ensures.encodes,
+      output_made visit c.as_str.result.now c.as_slice.result.now
+          (g.O.Outputs.kept c.args.outputs.now) (g.O.Outputs.kept c.write_output.new.outputs)
+          (output_is c.args.name.now c.args.suffix.now c.as_slice.result.now e.bytes c.as_str.result.now (c.as_str.ensures.value ∙ c.in_ok-output.ensures) c.as_slice.ensures.value)
+          c.in-Ok.ensures.ok,
+      c.in-Ok-say.ensures.ok ∙ ap (λ bytes. option_map (said_with bytes)
+          (g.S.Report.said c.args.report.now)) (c.as_bytes.ensures.value ∙ c.in_ok-line.ensures),
+    )
+
+pub returns-clause-err : goal.returns-clause-err
+returns-clause-err g c =
+    let p = picture_of c.args.frame.now in
+    let e = encoding_of c.in_ok-made.made in
+    let visit = accepted c.args.order.now c.args.suffix.now c.args.name.now p e in
+    line_broken (RightFor c.args.order.now c.args.suffix.now c.args.name.now
+    (Ok p)) visit c.as_bytes.result.now
+    (g.O.Outputs.kept c.args.outputs.now) (g.O.Outputs.kept c.write_output.new.outputs)
+    (g.S.Report.said c.args.report.now) (g.S.Report.said c.say.new.report)
+    (is_accepted c.args.order.now c.args.suffix.now c.args.name.now p e c.in_ok-made.ensures.encodes) (c.as_bytes.ensures.value ∙ c.in_ok-line.ensures)
+    (output_made visit c.as_str.result.now c.as_slice.result.now
+    (g.O.Outputs.kept c.args.outputs.now) (g.O.Outputs.kept c.write_output.new.outputs)
+    (output_is c.args.name.now c.args.suffix.now c.as_slice.result.now e.bytes c.as_str.result.now
+    (c.as_str.ensures.value ∙ c.in_ok-output.ensures) c.as_slice.ensures.value)
+    c.in-Ok.ensures.ok)
+    c.in-Err-say.ensures.err

@@ -1,7 +1,0 @@
-use Rattle.std.proofs.Common.{◌≡◌, ◌++◌, drop, string_bytes}
-use Rattle.encode_cli.specs.Line.{escaped}
-use Rattle.encode_cli.proofs.lines.escaped.Given as goal
-
--- what is written and the bytes that are left make the whole
-abbrev pub invariant-loop-byte : goal.invariant-loop-byte
-invariant-loop-byte l = string_bytes l.out ++ escaped (drop l.byte-index l.byte-items) ≡ escaped l.byte-items

@@ -1,0 +1,54 @@
+-- Which visits are right for a frame: what a run owes for it. The choice of an encoding is free
+-- among those that are right.
+use Rattle.std.specs.Prelude.{ℕ, ◌≡◌, ◌++◌, Some, None, true, false, List, Result, Ok, Err, codes}
+use Rattle.cine_nums.specs.Profile.{max_height_of, max_width_of}
+use Rattle.cine_nums.specs.declared.profile.Profile.{Profile}
+use Rattle.cine_ports.specs.Source.{File}
+use Rattle.pnm_frames.specs.declared.fault.FrameFault.{FrameFault}
+use Rattle.pnm_frames.specs.declared.limits.SizeLimits.{SizeLimits}
+use Rattle.pnm_frames.specs.Picture.{Picture}
+use Rattle.pnm_frames.specs.Reading.{frame_of}
+use Rattle.frame_encoder.specs.declared.order.EncodeOrder.{EncodeOrder}
+use Rattle.frame_encoder.specs.Encoded.{Encoding, Encodes}
+use Rattle.encode_cli.specs.ReportLine.{ok_line, refused_line}
+use Rattle.encode_cli.specs.Visit.{Visit}
+
+-- the largest frame of a profile
+abbrev pub sizes_of : Profile → SizeLimits
+sizes_of profile = record { width = max_width_of profile; height = max_height_of profile }
+
+-- the visit of a frame with this name that is encoded so: the output has the frame's name and the
+-- suffix
+abbrev pub accepted : EncodeOrder → List ℕ → List ℕ → Picture → Encoding → Visit
+accepted order suffix name p e = record {
+  output = Some (record { name = name ++ suffix; bytes = e.bytes });
+  line = ok_line order.profile name p.width p.height e;
+  refused = false;
+}
+
+-- the visit of one that is refused for this fault
+abbrev pub refused : List ℕ → FrameFault → Visit
+refused name fault = record { output = None; line = refused_line name fault; refused = true }
+
+-- The visit is that of some right encoding of the picture.
+pub record IsAccepted (order : EncodeOrder) (suffix name : List ℕ) (p : Picture)
+    (visit : Visit) : Type 0 where
+  pub encoding : Encoding
+  pub encodes : Encodes order p encoding
+  pub is : visit ≡ accepted order suffix name p encoding
+
+-- The visit is right for a frame with this name whose file spells this picture or has this first
+-- fault.
+abbrev pub RightFor : EncodeOrder → List ℕ → List ℕ → Result Picture FrameFault → Visit → Type 0
+RightFor order suffix name (Ok p) visit = IsAccepted order suffix name p visit
+RightFor order suffix name (Err fault) visit = visit ≡ refused name fault
+
+-- The visit is right for the file.
+abbrev pub Right : EncodeOrder → List ℕ → File → Visit → Type 0
+Right order suffix file visit =
+    RightFor order suffix file.name (frame_of (sizes_of order.profile) file.bytes) visit
+
+-- The visit is right for some file with this name: what holds of a frame whose file isn't known.
+abbrev pub RightByName : EncodeOrder → List ℕ → List ℕ → Visit → Type 0
+RightByName order suffix name visit =
+    (found : Result Picture FrameFault) × RightFor order suffix name found visit

@@ -1,0 +1,99 @@
+// What is written and reported of one frame.
+ghost use Rattle.std.specs.Prelude.{Option, ◌≡◌, ◌≤◌, ◌++◌, Ok, Err, [], false, map, option_map};
+ghost use Rattle.std.specs.Prelude.{Contains, OnOk, OnErr, IfOk, string_bytes};
+ghost use Rattle.std.specs.Option.{ForSome};
+ghost use Rattle.cine_nums.specs.Profile.{max_height_of, max_width_of};
+ghost use Rattle.cine_ports.specs.WholePieces.{said_with};
+ghost use Rattle.cine_ports.specs.Outputs.{Kept};
+ghost use Rattle.pnm_frames.specs.View.{picture_of};
+ghost use Rattle.encode_cli.specs.Output.{kept_and};
+ghost use Rattle.encode_cli.specs.Stop.{is_outputs_stop, is_report_stop, is_source_stop};
+ghost use Rattle.encode_cli.specs.Visit.{Visit, outputs_of};
+ghost use Rattle.encode_cli.specs.Right.{refused, RightFor};
+ghost use Rattle.encode_cli.specs.Progress.{VisitBrokeOff};
+
+use crate::output::write_output;
+use crate::report_line::{ok_line, refused_line};
+use crate::stop::Stop;
+use cine_ports::{Outputs, Report, say};
+use frame_encoder::{EncodeOrder, encode};
+use pnm_frames::{Frame, FrameFault};
+use std::alloc::{AllocError, Global};
+
+/// The name of a frame's output.
+fn output_name(alloc: Global, name: &str, suffix: &str) -> Result<String, AllocError>
+    ensures { IfOk result (λ text. string_bytes text ≡ name.now ++ suffix.now) }
+{
+    format!(in alloc; "{name}{suffix}")
+}
+
+/// Writes the codestream of a frame as the order asks for it, under the frame's name and the
+/// suffix, and then reports its line.
+pub fn write_frame<O: Outputs, S: Report>(
+    alloc: Global,
+    order: &EncodeOrder,
+    suffix: &str,
+    name: &str,
+    frame: &Frame,
+    outputs: &mut O,
+    report: &mut S,
+) -> Result<(), Stop>
+    requires some_width { 1 ≤ frame.now.width }
+    requires width { frame.now.width ≤ max_width_of order.now.profile }
+    requires some_height { 1 ≤ frame.now.height }
+    requires height { frame.now.height ≤ max_height_of order.now.profile }
+    requires outputs_working { O.has_failed outputs.old ≡ false }
+    requires report_working { S.has_failed report.old ≡ false }
+    requires closed { O.is_open outputs.old ≡ false }
+    requires at_rest { ForSome (O.kept outputs.old) (λ kept. kept.unfinished ≡ None) }
+    requires other_name { ForSome (O.kept outputs.old)
+        (λ kept. ¬ Contains (map (λ file. file.name) kept.finished) (name.now ++ suffix.now)) }
+    ensures ok { OnOk result ((visit : Visit)
+        × RightFor order.now suffix.now name.now (Ok (picture_of frame.now)) visit
+        × (O.kept outputs.new ≡ option_map (kept_and (outputs_of visit)) (O.kept outputs.old))
+        × (S.said report.new ≡ option_map (said_with visit.line) (S.said report.old))) }
+    ensures closed { OnOk result (O.is_open outputs.new ≡ false) }
+    ensures err { OnErr result
+        (VisitBrokeOff (RightFor order.now suffix.now name.now (Ok (picture_of frame.now)))
+        (O.kept outputs.old) (O.kept outputs.new) (S.said report.old) (S.said report.new)) }
+    ensures no_source { is_source_stop result ≡ false }
+    ensures outputs_failed { O.has_failed outputs.new ≡ is_outputs_stop result }
+    ensures report_failed { S.has_failed report.new ≡ is_report_stop result }
+{
+    let output = output_name(alloc, name, suffix)?;
+    let made = encode(alloc, frame, order)?;
+    let line = ok_line(alloc, order.profile, name, frame.width, frame.height, &made)?;
+    match write_output(outputs, output.as_str(), made.bytes.as_slice()) {
+        Ok(()) => {}
+        Err(fault) => return Err(Stop::of_outputs(fault)),
+    }
+    match say(report, line.as_bytes()) {
+        Ok(()) => Ok(()),
+        Err(fault) => Err(Stop::of_report(fault)),
+    }
+}
+
+/// Reports the line of a file that is refused for its fault.
+pub fn refuse<S: Report>(
+    alloc: Global,
+    name: &str,
+    fault: FrameFault,
+    report: &mut S,
+) -> Result<(), Stop>
+    requires { S.has_failed report.old ≡ false }
+    ensures ok { OnOk result (S.said report.new
+        ≡ option_map (said_with (refused name.now fault).line) (S.said report.old)) }
+    ensures err { (kept : Option Kept) → OnErr result
+        (VisitBrokeOff (λ visit. visit ≡ refused name.now fault)
+        (option_map (kept_and []) kept) (option_map (kept_and []) kept) (S.said report.old)
+        (S.said report.new)) }
+    ensures no_source { is_source_stop result ≡ false }
+    ensures no_outputs { is_outputs_stop result ≡ false }
+    ensures report_failed { S.has_failed report.new ≡ is_report_stop result }
+{
+    let line = refused_line(alloc, name, fault)?;
+    match say(report, line.as_bytes()) {
+        Ok(()) => Ok(()),
+        Err(fault) => Err(Stop::of_report(fault)),
+    }
+}
