@@ -1,3 +1,4 @@
+pub mod ApartLemmas
 pub mod Casts
 pub mod Lines
 pub mod Planes

@@ -1,11 +1,12 @@
--- The irreversible 9-7 wavelet transform of one line in fixed point: ISO/IEC 15444-1, Annex F.4 (1D_SD, 1D_EXTD,
--- 1D_FILTD 9-7 and the split of 2D_DEINTERLEAVE).
-use Rattle.std.specs.Prelude.{ℕ, suc, zero, ◌+◌, ◌-◌, ◌*◌, ◌/◌, ◌%◌, ℤ, pos, negsuc, ◌+ℤ◌, List, [], ◌∷◌, ◌++◌, map, length, slice_index_or, nat_lt, nat_eq, if◌then◌else◌}
+-- The irreversible 9-7 wavelet transform of one line in fixed point: ISO/IEC 15444-1, Annex F.4
+-- (1D_SD, 1D_EXTD, 1D_FILTD 9-7 and the split of 2D_DEINTERLEAVE).
+use Rattle.std.specs.Prelude.{ℕ, suc, zero, ◌+◌, ◌-◌, ◌*◌, ◌/◌, ◌%◌, ℤ, pos, negsuc, ◌+ℤ◌, List, []}
+use Rattle.std.specs.Prelude.{◌∷◌, ◌++◌, map, length, slice_index_or, nat_lt, nat_eq, if◌then◌else◌}
 use Rattle.std.specs.List.{range_with_len}
 use Rattle.cine_nums.specs.Fixed.{mul16, limit30}
 
--- The lifting parameters of Table F.4 times 65,536, rounded: -1.586.., -0.052.., 0.882.., 0.443.., the scaling
--- K = 1.230.., and 1/K.
+-- The lifting parameters of Table F.4 times 65,536, rounded: -1.586.., -0.052.., 0.882.., 0.443..,
+-- the scaling K = 1.230.., and 1/K.
 abbrev pub alpha : ℤ
 alpha = negsuc 103948
 
@@ -28,7 +29,8 @@ inverse_scaling = pos 53274
 abbrev pub at : List ℤ → ℕ → ℤ
 at xs i = slice_index_or xs i (pos 0)
 
--- The places beside place i of a line of n samples, mirrored at its ends: place -1 is place 1, place n is n - 2.
+-- The places beside place i of a line of n samples, mirrored at its ends: place -1 is place 1,
+-- place n is n - 2.
 abbrev pub left_of : ℕ → ℕ
 left_of zero = 1
 left_of (suc i) = i
@@ -44,8 +46,8 @@ lifted c x left right = limit30 (x +ℤ mul16 c (left +ℤ right))
 unfoldable pub scaled : ℤ → ℤ → ℤ
 scaled c x = limit30 (mul16 c x)
 
--- The lifting step with parameter c: each odd place (parity 1) or each even place (parity 0) takes its two
--- neighbours in, and the others stay.
+-- The lifting step with parameter c: each odd place (parity 1) or each even place (parity 0) takes
+-- its two neighbours in, and the others stay.
 abbrev pub lifted_at : ℤ → ℕ → List ℤ → ℕ → ℤ
 lifted_at c parity xs i =
     if nat_eq (i % 2) parity
@@ -65,7 +67,8 @@ scale c parity xs = map (scaled_at c parity xs) (range_with_len 0 (length xs))
 -- the six steps
 abbrev pub filtered : List ℤ → List ℤ
 filtered xs =
-    scale inverse_scaling 0 (scale scaling 1 (lift delta 0 (lift gamma 1 (lift beta 0 (lift alpha 1 xs)))))
+    scale inverse_scaling 0 (scale scaling 1
+    (lift delta 0 (lift gamma 1 (lift beta 0 (lift alpha 1 xs)))))
 
 -- the samples at even places, and those at odd places
 abbrev pub evens : List ℤ → List ℤ

@@ -1,7 +1,9 @@
 // The transform of one line of samples.
-ghost use Rattle.std.specs.Prelude.{◌≡◌, ℕ, ◌<◌, ◌≤◌, ◌+ℤ◌, length, All};
+ghost use Rattle.std.specs.Prelude.{◌≡◌, ℕ, ◌+◌, ◌-◌, ◌/◌, ◌<◌, ◌≤◌, ℤ, ◌+ℤ◌, List, length, All};
 ghost use Rattle.cine_nums.specs.Fixed.{mul16, limit30, Within30};
-ghost use Rattle.lift97_fixed.specs.Line.{left_of, right_of, lifted, scaled, lift, scale, split, line_transform};
+ghost use Rattle.lift97_fixed.specs.Apart.{IsApart};
+ghost use Rattle.lift97_fixed.specs.Line.{left_of, right_of, lifted, scaled, lift, scale, split};
+ghost use Rattle.lift97_fixed.specs.Line.{scaling, inverse_scaling, line_transform};
 
 use cine_nums::{limit30, mul16};
 
@@ -58,59 +60,83 @@ pub fn scaled(c: i32, cell: i32) -> i32
     limit30(mul16(c, cell))
 }
 
-/// The lifting step with parameter `c` at the odd places (`first` is 1) or at the even ones (0).
+/// Puts the samples at even places into `lows` and those at odd places into `highs`.
 #[inline]
-fn lift(line: &mut [i32], first: usize, c: i32)
-    requires parity { first < 2 }
-    requires line { 2 ≤ length line.old }
-    requires cells { All Within30 line.old }
-    ensures value { line.new ≡ lift c first line.old }
-    ensures within { All Within30 line.new }
+fn take_apart(line: &[i32], lows: &mut [i32], highs: &mut [i32])
+    requires low { length lows.old ≡ length line.now - length line.now / 2 }
+    requires high { length highs.old ≡ length line.now / 2 }
+    ensures { IsApart line.now lows.new highs.new }
 {
-    let n = line.len();
-    if first == 0 {
-        line[0] = lifted(c, line[0], line[1], line[1]);
+    for k in 0..highs.len() {
+        lows[k] = line[2 * k];
+        highs[k] = line[2 * k + 1];
     }
-    for k in 1 - first..(n - first) / 2 {
-        let i = 2 * k + first;
-        line[i] = lifted(c, line[i], line[i - 1], line[i + 1]);
-    }
-    if (n - 1) % 2 == first {
-        line[n - 1] = lifted(c, line[n - 1], line[n - 2], line[n - 2]);
+    if lows.len() > highs.len() {
+        lows[highs.len()] = line[line.len() - 1];
     }
 }
 
-/// The scaling by `c` of the odd places (`first` is 1) or of the even ones (0).
+/// The lifting step with parameter `c` at the odd places of a line that is taken apart.
 #[inline]
-fn scale(line: &mut [i32], first: usize, c: i32)
-    requires parity { first < 2 }
-    requires cells { All Within30 line.old }
-    ensures value { line.new ≡ scale c first line.old }
-    ensures within { All Within30 line.new }
+fn lift_highs(lows: &[i32], highs: &mut [i32], c: i32)
+    requires some { 1 ≤ length highs.old }
+    requires at_least { length highs.old ≤ length lows.now }
+    requires at_most { length lows.now ≤ length highs.old + 1 }
+    requires lows { All Within30 lows.now }
+    requires highs { All Within30 highs.old }
+    ensures value { (xs : List ℤ) → IsApart xs lows.now highs.old →
+        IsApart (lift c 1 xs) lows.now highs.new }
+    ensures within { All Within30 highs.new }
 {
-    for k in 0..(line.len() + 1 - first) / 2 {
-        let i = 2 * k + first;
-        line[i] = scaled(c, line[i]);
+    let inner = lows.len() - 1;
+    for k in 0..inner {
+        highs[k] = lifted(c, highs[k], lows[k], lows[k + 1]);
+    }
+    if inner < highs.len() {
+        highs[inner] = lifted(c, highs[inner], lows[inner], lows[inner]);
     }
 }
 
-/// The samples at even places, then those at odd places.
+/// The lifting step with parameter `c` at the even places of a line that is taken apart.
 #[inline]
-fn split(line: &mut [i32], scratch: &mut [i32])
-    requires same { length line.old ≡ length scratch.old }
+fn lift_lows(lows: &mut [i32], highs: &[i32], c: i32)
+    requires some { 1 ≤ length highs.now }
+    requires at_least { length highs.now ≤ length lows.old }
+    requires at_most { length lows.old ≤ length highs.now + 1 }
+    requires lows { All Within30 lows.old }
+    requires highs { All Within30 highs.now }
+    ensures value { (xs : List ℤ) → IsApart xs lows.old highs.now →
+        IsApart (lift c 0 xs) lows.new highs.now }
+    ensures within { All Within30 lows.new }
+{
+    let inner = highs.len();
+    lows[0] = lifted(c, lows[0], highs[0], highs[0]);
+    for k in 1..inner {
+        lows[k] = lifted(c, lows[k], highs[k - 1], highs[k]);
+    }
+    if inner < lows.len() {
+        lows[inner] = lifted(c, lows[inner], highs[inner - 1], highs[inner - 1]);
+    }
+}
+
+/// The scaling of a line that is taken apart: the low-pass samples first, then the high-pass ones.
+#[inline]
+fn scale_and_join(line: &mut [i32], lows: &[i32], highs: &[i32])
+    requires same { length line.old ≡ length lows.now + length highs.now }
     requires cells { All Within30 line.old }
-    ensures value { line.new ≡ split line.old }
+    requires lows { All Within30 lows.now }
+    requires highs { All Within30 highs.now }
+    ensures value { (xs : List ℤ) → IsApart xs lows.now highs.now →
+        line.new ≡ split (scale inverse_scaling 0 (scale scaling 1 xs)) }
     ensures within { All Within30 line.new }
 {
-    let high = line.len() / 2;
-    let low = line.len() - high;
+    let low = lows.len();
     for k in 0..low {
-        scratch[k] = line[2 * k];
+        line[k] = scaled(INVERSE_K, lows[k]);
     }
-    for k in 0..high {
-        scratch[low + k] = line[2 * k + 1];
+    for k in 0..highs.len() {
+        line[low + k] = scaled(K, highs[k]);
     }
-    line.copy_from_slice(scratch);
 }
 
 /// The transform of a line of 1 to 4,096 samples in -2^30 .. 2^30 - 1 (ISO/IEC 15444-1, Annex F.4):
@@ -127,13 +153,14 @@ pub fn forward_line(line: &mut [i32], scratch: &mut [i32])
     if line.len() < 2 {
         return;
     }
-    lift(line, 1, ALPHA);
-    lift(line, 0, BETA);
-    lift(line, 1, GAMMA);
-    lift(line, 0, DELTA);
-    scale(line, 1, K);
-    scale(line, 0, INVERSE_K);
-    split(line, scratch);
+    let low = line.len() - line.len() / 2;
+    let (lows, highs) = scratch.split_at_mut(low);
+    take_apart(line, lows, highs);
+    lift_highs(lows, highs, ALPHA);
+    lift_lows(lows, highs, BETA);
+    lift_highs(lows, highs, GAMMA);
+    lift_lows(lows, highs, DELTA);
+    scale_and_join(line, lows, highs);
 }
 
 #[cfg(test)]

@@ -22,7 +22,8 @@ impl Plane {
         requires high { 1 ≤ height × height ≤ 4096 }
         ensures width { IfOk result (λ plane. plane.width ≡ width) }
         ensures height { IfOk result (λ plane. plane.height ≡ height) }
-        ensures cells { IfOk result (λ plane. plane.cells.items ≡ replicate (width * height) (pos 0)) }
+        ensures cells { IfOk result (λ plane. plane.cells.items
+            ≡ replicate (width * height) (pos 0)) }
     {
         let cells = vec![in alloc; 0; width as usize * height as usize]?;
         Ok(Plane {

@@ -9,8 +9,8 @@ use crate::plane::Plane;
 use crate::vertical::transform_columns;
 use cine_nums::half_up;
 
-/// The transform of a line along the first `width` cells of each of `height` rows. A row has `stride`
-/// cells; `scratch` may hold anything afterwards.
+/// The transform of a line along the first `width` cells of each of `height` rows. A row has
+/// `stride` cells; `scratch` may hold anything afterwards.
 fn transform_rows(
     cells: &mut [i32],
     stride: usize,
@@ -32,16 +32,17 @@ fn transform_rows(
     }
 }
 
-/// The transform of a plane by up to 6 levels (ISO/IEC 15444-1, Annex F.4): each level transforms every
-/// column and then every row of the LL part that the level before it left in the upper left corner, and
-/// leaves there LL, right of it HL, below it LH, and HH in the fourth part. The cells are in
-/// -2^30 .. 2^30 - 1 before and after. `scratch` has at least twice as many cells as the larger side,
-/// and may hold anything afterwards.
+/// The transform of a plane by up to 6 levels (ISO/IEC 15444-1, Annex F.4): each level transforms
+/// every column and then every row of the LL part that the level before it left in the upper left
+/// corner, and leaves there LL, right of it HL, below it LH, and HH in the fourth part. The cells
+/// are in -2^30 .. 2^30 - 1 before and after. `scratch` has at least twice as many cells as the
+/// larger side, and may hold anything afterwards.
 pub fn forward(plane: &mut Plane, levels: u8, scratch: &mut [i32])
     requires levels { levels ≤ 6 }
     requires scratch { 2 * max plane.old.width plane.old.height ≤ length scratch.old }
     requires cells { All Within30 plane.old.cells.items }
-    ensures value { plane.new.cells.items ≡ plane_transform levels plane.old.width plane.old.height plane.old.cells.items }
+    ensures value { plane.new.cells.items
+        ≡ plane_transform levels plane.old.width plane.old.height plane.old.cells.items }
     ensures within { All Within30 plane.new.cells.items }
     ensures width { plane.new.width ≡ plane.old.width }
     ensures height { plane.new.height ≡ plane.old.height }

@@ -1,13 +1,14 @@
 // The transform of the columns of a plane. Each step goes row by row, in the order of memory.
 ghost use Rattle.std.specs.Prelude.{◌≡◌, ◌≢◌, ℕ, ◌<◌, ◌≤◌, ◌*◌, ◌+◌, length, All};
 ghost use Rattle.cine_nums.specs.Fixed.{Within30};
-ghost use Rattle.lift97_fixed.specs.Line.{lifted, scaled, lift, scale, split, source_of, line_transform};
+ghost use Rattle.lift97_fixed.specs.Line.{lifted, scaled, lift, scale, split, source_of};
+ghost use Rattle.lift97_fixed.specs.Line.{line_transform};
 ghost use Rattle.lift97_fixed.specs.Plane.{cell, columns};
 
 use crate::line::{ALPHA, BETA, DELTA, GAMMA, INVERSE_K, K, left_of, lifted, right_of, scaled};
 
-/// The lifting step with parameter `c` of the first `width` cells of row `y`, from the rows `above` and
-/// `below`. A row has `stride` cells.
+/// The lifting step with parameter `c` of the first `width` cells of row `y`, from the rows `above`
+/// and `below`. A row has `stride` cells.
 fn lift_row(
     cells: &mut [i32],
     stride: usize,
@@ -22,8 +23,11 @@ fn lift_row(
     requires above { above * stride + stride ≤ length cells.old × above ≢ y }
     requires below { below * stride + stride ≤ length cells.old × below ≢ y }
     requires cells { All Within30 cells.old }
-    ensures done { (x : ℕ) → x < width → cell stride cells.new x y ≡ lifted c (cell stride cells.old x y) (cell stride cells.old x above) (cell stride cells.old x below) }
-    ensures kept { (x row : ℕ) → x < stride → (row ≡ y → width ≤ x) → cell stride cells.new x row ≡ cell stride cells.old x row }
+    ensures done { (x : ℕ) → x < width →
+        cell stride cells.new x y ≡ lifted c (cell stride cells.old x y)
+        (cell stride cells.old x above) (cell stride cells.old x below) }
+    ensures kept { (x row : ℕ) → x < stride → (row ≡ y → width ≤ x) →
+        cell stride cells.new x row ≡ cell stride cells.old x row }
     ensures within { All Within30 cells.new }
 {
     for x in 0..width {
@@ -33,8 +37,8 @@ fn lift_row(
     }
 }
 
-/// The lifting step with parameter `c` along the first `width` columns of `height` rows, at the odd rows
-/// (`first` is 1) or at the even ones (0).
+/// The lifting step with parameter `c` along the first `width` columns of `height` rows, at the odd
+/// rows (`first` is 1) or at the even ones (0).
 fn lift_rows(cells: &mut [i32], stride: usize, width: usize, height: usize, first: usize, c: i32)
     requires parity { first < 2 }
     requires width { 1 ≤ stride × width ≤ stride }
@@ -54,8 +58,10 @@ fn scale_row(cells: &mut [i32], stride: usize, width: usize, y: usize, c: i32)
     requires width { width ≤ stride }
     requires here { y * stride + stride ≤ length cells.old }
     requires cells { All Within30 cells.old }
-    ensures done { (x : ℕ) → x < width → cell stride cells.new x y ≡ scaled c (cell stride cells.old x y) }
-    ensures kept { (x row : ℕ) → x < stride → (row ≡ y → width ≤ x) → cell stride cells.new x row ≡ cell stride cells.old x row }
+    ensures done { (x : ℕ) → x < width →
+        cell stride cells.new x y ≡ scaled c (cell stride cells.old x y) }
+    ensures kept { (x row : ℕ) → x < stride → (row ≡ y → width ≤ x) →
+        cell stride cells.new x row ≡ cell stride cells.old x row }
     ensures within { All Within30 cells.new }
 {
     for x in 0..width {
@@ -63,8 +69,8 @@ fn scale_row(cells: &mut [i32], stride: usize, width: usize, y: usize, c: i32)
     }
 }
 
-/// The scaling by `c` along the first `width` columns of `height` rows, at the odd rows (`first` is 1) or
-/// at the even ones (0).
+/// The scaling by `c` along the first `width` columns of `height` rows, at the odd rows (`first` is
+/// 1) or at the even ones (0).
 fn scale_rows(cells: &mut [i32], stride: usize, width: usize, height: usize, first: usize, c: i32)
     requires parity { first < 2 }
     requires width { 1 ≤ stride × width ≤ stride }
@@ -85,8 +91,10 @@ fn swap_rows(cells: &mut [i32], stride: usize, width: usize, y: usize, other: us
     requires there { other * stride + stride ≤ length cells.old }
     requires cells { All Within30 cells.old }
     ensures here { (x : ℕ) → x < width → cell stride cells.new x y ≡ cell stride cells.old x other }
-    ensures there { (x : ℕ) → x < width → cell stride cells.new x other ≡ cell stride cells.old x y }
-    ensures kept { (x row : ℕ) → x < stride → (row ≡ y → width ≤ x) → (row ≡ other → width ≤ x) → cell stride cells.new x row ≡ cell stride cells.old x row }
+    ensures there { (x : ℕ) → x < width →
+        cell stride cells.new x other ≡ cell stride cells.old x y }
+    ensures kept { (x row : ℕ) → x < stride → (row ≡ y → width ≤ x) → (row ≡ other → width ≤ x) →
+        cell stride cells.new x row ≡ cell stride cells.old x row }
     ensures within { All Within30 cells.new }
 {
     if y == other {
@@ -109,9 +117,9 @@ fn source_of(n: usize, j: usize) -> usize
     if j < low { 2 * j } else { 2 * (j - low) + 1 }
 }
 
-/// Puts the even rows of the first `height` ones before the odd ones, over the first `width` columns, by
-/// exchanges: `held[p]` is the number that the row at place `p` had at first, and `placed[r]` the place
-/// of the row that was number `r`.
+/// Puts the even rows of the first `height` ones before the odd ones, over the first `width`
+/// columns, by exchanges: `held[p]` is the number that the row at place `p` had at first, and
+/// `placed[r]` the place of the row that was number `r`.
 fn split_rows(
     cells: &mut [i32],
     stride: usize,
@@ -144,8 +152,8 @@ fn split_rows(
     }
 }
 
-/// The transform of a line along the first `width` columns of `height` rows. A row has `stride` cells, and
-/// `scratch` at least twice as many as there are rows; it may hold anything afterwards.
+/// The transform of a line along the first `width` columns of `height` rows. A row has `stride`
+/// cells, and `scratch` at least twice as many as there are rows; it may hold anything afterwards.
 pub fn transform_columns(
     cells: &mut [i32],
     stride: usize,

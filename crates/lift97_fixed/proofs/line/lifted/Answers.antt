@@ -12,4 +12,5 @@ returns-clause-value c =
     let product : c.mul16.result ≡ mul16 c.args.c (c.args.left +ℤ c.args.right) =
     rw (factors, passed_fits c.args.c c.ranges.c) at c.mul16.ensures.value in
     passed_within c.limit30.result c.limit30.ensures.within
-    ∙ (c.limit30.ensures.value ∙ (ap limit30 sum ∙ ap (λ (z : ℤ). limit30 (c.args.cell +ℤ z)) product))
+    ∙ (c.limit30.ensures.value ∙ (ap limit30 sum
+    ∙ ap (λ (z : ℤ). limit30 (c.args.cell +ℤ z)) product))

@@ -3,7 +3,9 @@ use Rattle.lift97_fixed.proofs.Levels.{short_columns, long_columns}
 use Rattle.lift97_fixed.proofs.vertical.transform_columns.Goals as goal
 
 pub returns-then-height-lt2-clause-value : goal.returns-then-height-lt2-clause-value
-returns-then-height-lt2-clause-value c = short_columns c.args.stride c.args.width c.args.height c.args.cells.now c.requires.width.0 (omega arith)
+returns-then-height-lt2-clause-value c =
+    short_columns c.args.stride c.args.width c.args.height c.args.cells.now c.requires.width.0
+    (omega arith)
 
 pub returns-clause-value : goal.returns-clause-value
 returns-clause-value c =
