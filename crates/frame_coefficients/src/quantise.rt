@@ -91,6 +91,7 @@ mod tests {
         let steps = StepSizes::built_in(Profile::TwoK);
         let mut coefs = [Coef::zero(); 4];
         quantise_plane(&geometry, &steps, &[-8192, 8191, -4095, 16384], &mut coefs);
+        let coefs = &coefs[..];
         assert_eq!(rt; coefs[0], Coef::new(64, true));
         assert_eq!(rt; coefs[1], Coef::new(1, false));
         assert_eq!(rt; coefs[2], Coef::new(0, false));
