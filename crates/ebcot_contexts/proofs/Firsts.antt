@@ -1,4 +1,4 @@
--- The first 1 of four bits, as run mode tells it.
+-- The first 1 of four bits, as run mode has it.
 use Rattle.std.proofs.Common.{◌%◌, ◌≡◌, ◌↔◌, Bool, true, false, ◌||◌, refl, sym}
 use Rattle.std.specs.Prelude.{◌==◌, nat_le}
 use Rattle.std.proofs.lemmas.Bool.{false≢true}
@@ -17,7 +17,8 @@ lower a b c = first a b c % 2 == 1
 abbrev pub RunShown : Bool → Bool → Bool → Bool → Bool → Bool → Type 0
 RunShown a b c d h l = (true ≡ any a b c d) × (h ≡ upper a b c) × (l ≡ lower a b c)
 
-pub none : (a b c d : Bool) → ((false ≡ a) × (false ≡ b) × (false ≡ c) × (false ≡ d)) ↔ (false ≡ any a b c d)
+pub none : (a b c d : Bool) → ((false ≡ a) × (false ≡ b) × (false ≡ c) × (false ≡ d)) ↔
+    (false ≡ any a b c d)
 none false false false false = (λ r. refl, λ e. (refl, refl, refl, refl))
 none true b c d = (λ r. absurd (false≢true r.0), λ e. absurd (false≢true e))
 none false true c d = (λ r. absurd (false≢true r.1), λ e. absurd (false≢true e))
@@ -42,9 +43,11 @@ at_2 true b c d = (λ e. absurd (false≢true e.0), λ r. absurd (false≢true (
 at_2 false true c d = (λ e. absurd (false≢true e.1), λ r. absurd (false≢true (sym r.1)))
 at_2 false false false d = (λ e. absurd (false≢true (sym e.2)), λ r. absurd (false≢true r.2))
 
-pub at_3 : (a b c d : Bool) → ((false ≡ a) × (false ≡ b) × (false ≡ c) × (true ≡ d)) ↔ RunShown a b c d true true
+pub at_3 : (a b c d : Bool) → ((false ≡ a) × (false ≡ b) × (false ≡ c) ×
+    (true ≡ d)) ↔ RunShown a b c d true true
 at_3 false false false true = (λ e. (refl, refl, refl), λ r. (refl, refl, refl, refl))
-at_3 false false false false = (λ e. absurd (false≢true (sym e.3)), λ r. absurd (false≢true (sym r.0)))
+at_3 false false false false =
+    (λ e. absurd (false≢true (sym e.3)), λ r. absurd (false≢true (sym r.0)))
 at_3 true b c d = (λ e. absurd (false≢true e.0), λ r. absurd (false≢true (sym r.1)))
 at_3 false true c d = (λ e. absurd (false≢true e.1), λ r. absurd (false≢true (sym r.1)))
 at_3 false false true d = (λ e. absurd (false≢true e.2), λ r. absurd (false≢true (sym r.2)))

@@ -1,7 +1,8 @@
--- Coding as a row of questions, each asked in a context. An encoder answers them by the coefficients
--- and puts the answers out as symbols, a decoder takes the answers from the bytes. So both have the
--- same contexts, in the same order, and what is asked is written once.
-use Rattle.std.specs.Prelude.{ℕ, ◌%◌, ◌≡◌, Bool, true, false, not, ◌||◌, ◌==◌, nat_le, List, [], ◌∷◌}
+-- Coding as a row of questions, each asked in a context. An encoder answers them by the
+-- coefficients and puts the answers out as symbols, a decoder takes the answers from the bytes. So
+-- both have the same contexts, in the same order, and what is asked is written once.
+use Rattle.std.specs.Prelude.{ℕ, ◌%◌, ◌≡◌, Bool, true, false, not, ◌||◌, ◌==◌, nat_le, List, []}
+use Rattle.std.specs.Prelude.{◌∷◌}
 use Rattle.ebcot_contexts.specs.Cells.{Cell, coef_at, bit_of}
 
 pub data Question : Type 0 where
@@ -27,7 +28,8 @@ first false false false = 3
 
 abbrev pub first_one : List (ℕ × Bool) → ℕ → ℕ → ℕ → ℕ → ℕ
 first_one coefs p a b c =
-    first (bit_of (coef_at coefs a).0 p) (bit_of (coef_at coefs b).0 p) (bit_of (coef_at coefs c).0 p)
+    first (bit_of (coef_at coefs a).0 p) (bit_of (coef_at coefs b).0 p)
+    (bit_of (coef_at coefs c).0 p)
 
 -- the answer that the coefficients give
 abbrev pub truth : List (ℕ × Bool) → Question → Bool

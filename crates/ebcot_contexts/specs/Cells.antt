@@ -1,11 +1,12 @@
--- What is known of the coefficients of a code-block while its bit-planes are coded: ISO/IEC 15444-1,
--- Annex D.2. A place is its number in raster order, counted from 0, a bit-plane its number from the
--- least significant one, counted from 0.
-use Rattle.std.specs.Prelude.{ℕ, ◌+◌, ◌*◌, ◌/◌, ◌%◌, ◌^◌, ◌≡◌, Bool, true, false, ◌&&◌, ◌==◌, nat_lt, List, [], ◌∷◌, get_or}
+-- What is known of the coefficients of a code-block while its bit-planes are coded: ISO/IEC
+-- 15444-1, Annex D.2. A place is its number in raster order, counted from 0, a bit-plane its number
+-- from the least significant one, counted from 0.
+use Rattle.std.specs.Prelude.{ℕ, ◌+◌, ◌*◌, ◌/◌, ◌%◌, ◌^◌, ◌≡◌, Bool, true, false, ◌&&◌, ◌==◌}
+use Rattle.std.specs.Prelude.{nat_lt, List, [], ◌∷◌, get_or}
 
--- A cell is what is known of one coefficient: the bits of its magnitude in the planes that are known,
--- as a number; whether its sign is known to be negative; and how many planes, the lowest ones, are
--- still unknown.
+-- A cell is what is known of one coefficient: the bits of its magnitude in the planes that are
+-- known, as a number; whether its sign is known to be negative; and how many planes, the lowest
+-- ones, are still unknown.
 pub record Cell : Type 0 where
   pub magnitude : ℕ
   pub negative : Bool

@@ -1,5 +1,6 @@
 -- The contexts of bit-plane coding: ISO/IEC 15444-1, Annex D.3, Tables D.1 to D.4.
-use Rattle.std.specs.Prelude.{ℕ, zero, suc, ◌+◌, ◌*◌, ◌/◌, ◌%◌, Bool, true, false, not, ◌==◌, nat_lt, nat_le, List, if◌then◌else◌, ℤ, pos, negsuc}
+use Rattle.std.specs.Prelude.{ℕ, zero, suc, ◌+◌, ◌*◌, ◌/◌, ◌%◌, Bool, true, false, not, ◌==◌}
+use Rattle.std.specs.Prelude.{nat_lt, nat_le, List, if◌then◌else◌, ℤ, pos, negsuc}
 use Rattle.cine_nums.specs.declared.orient.Orient.{Orient}
 use Rattle.cine_nums.specs.declared.orient.Orient.TheVariants.{LL, HL, LH, HH}
 use Rattle.ebcot_contexts.specs.Cells.{Cell, fresh, is_significant, cell_at, number}
@@ -55,8 +56,8 @@ contribution (pos zero) = even
 contribution (pos (suc n)) = plus
 contribution (negsuc n) = minus
 
--- Table D.3, by the contributions of the horizontal and of the vertical neighbours: the context of a
--- sign, and whether its bit is flipped (the XOR bit)
+-- Table D.3, by the contributions of the horizontal and of the vertical neighbours: the context of
+-- a sign, and whether its bit is flipped (the XOR bit)
 abbrev pub sign_context : Contribution → Contribution → ℕ × Bool
 sign_context plus plus = (13, false)
 sign_context plus even = (12, false)
@@ -117,8 +118,10 @@ context_at s cells i =
 unfoldable pub sign_at : Shape → List Cell → ℕ → ℕ × Bool
 sign_at s cells i =
     sign_context
-    (both (contribution_of (neighbour s.width cells i 0 1)) (contribution_of (neighbour s.width cells i 2 1)))
-    (both (contribution_of (neighbour s.width cells i 1 0)) (contribution_of (neighbour s.width cells i 1 2)))
+    (both (contribution_of (neighbour s.width cells i 0 1))
+    (contribution_of (neighbour s.width cells i 2 1)))
+    (both (contribution_of (neighbour s.width cells i 1 0))
+    (contribution_of (neighbour s.width cells i 1 2)))
 
 -- no neighbour of a place is significant: exactly then its context is 0
 unfoldable pub is_quiet : Shape → List Cell → ℕ → Bool

@@ -4,7 +4,8 @@ use Rattle.cine_nums.specs.declared.orient.Orient.{Orient}
 use Rattle.mq_coder.specs.Code.{code}
 use Rattle.ebcot_contexts.specs.Cells.{Cell, view}
 use Rattle.ebcot_contexts.specs.Contexts.{Shape}
-use Rattle.ebcot_contexts.specs.Meaning.{symbols_of, known_after, unknown_after, IsBlock, Means, DecidedBy, read_block}
+use Rattle.ebcot_contexts.specs.Meaning.{symbols_of, known_after, unknown_after, IsBlock, Means}
+use Rattle.ebcot_contexts.specs.Meaning.{DecidedBy, read_block}
 
 -- what is read is a meaning of the bytes, and it is the only one
 abbrev pub MeaningHolds : Type 0

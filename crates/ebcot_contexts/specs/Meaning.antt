@@ -1,6 +1,7 @@
 -- The symbols of a code-block's passes, and the meaning of its bytes.
 use Rattle.std.specs.Prelude.{ℕ, ◌-◌, ◌*◌, ◌^◌, ◌≤◌, ◌<◌, ◌≡◌, Bool, List, length, map}
-use Rattle.mq_coder.specs.Decisions.{Interval, start_interval, part_symbol, is_lower, next_interval, decisions}
+use Rattle.mq_coder.specs.Decisions.{Interval, start_interval, part_symbol, is_lower, next_interval}
+use Rattle.mq_coder.specs.Decisions.{decisions}
 use Rattle.mq_coder.specs.Laws.{contexts_of, bits_of}
 use Rattle.ebcot_contexts.specs.Cells.{Cell, cell_at, coef_at, IsPlain, coef_of}
 use Rattle.ebcot_contexts.specs.Contexts.{Shape}

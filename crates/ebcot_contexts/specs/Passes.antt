@@ -1,8 +1,11 @@
 -- The coding passes: ISO/IEC 15444-1, Annex D.1 (scan) and D.3 (passes).
-use Rattle.std.specs.Prelude.{ℕ, zero, suc, ◌+◌, ◌-◌, ◌*◌, ◌/◌, ◌%◌, Bool, true, false, not, ◌&&◌, ◌==◌, nat_lt, List, [], ◌∷◌, set, map, replicate, if◌then◌else◌}
-use Rattle.ebcot_contexts.specs.Cells.{Cell, fresh, is_significant, cell_at, learn, become_significant}
+use Rattle.std.specs.Prelude.{ℕ, zero, suc, ◌+◌, ◌-◌, ◌*◌, ◌/◌, ◌%◌, Bool, true, false, not, ◌&&◌}
+use Rattle.std.specs.Prelude.{◌==◌, nat_lt, List, [], ◌∷◌, set, map, replicate, if◌then◌else◌}
+use Rattle.ebcot_contexts.specs.Cells.{Cell, fresh, is_significant, cell_at, learn}
+use Rattle.ebcot_contexts.specs.Cells.{become_significant}
 use Rattle.ebcot_contexts.specs.Contexts.{Shape, context_at, sign_at, is_quiet, refinement_at}
-use Rattle.ebcot_contexts.specs.Asks.{bit, sign, interrupted, row_high, row_low, Asks, done, ask, chain, flipped}
+use Rattle.ebcot_contexts.specs.Asks.{bit, sign, interrupted, row_high, row_low, Asks, done, ask}
+use Rattle.ebcot_contexts.specs.Asks.{chain, flipped}
 
 -- the significance propagation, the magnitude refinement and the cleanup pass of a bit-plane
 pub data Kind : Type 0 where

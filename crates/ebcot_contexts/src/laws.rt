@@ -1,6 +1,7 @@
 // Laws of the definitions, for the crates above: a call of one of these functions, which do
 // nothing, gives the caller its clause.
-ghost use Rattle.ebcot_contexts.specs.Laws.{MeaningHolds, OneMeaning, ReadBack, WithoutOrient, FewSymbols};
+ghost use Rattle.ebcot_contexts.specs.Laws.{MeaningHolds, OneMeaning, ReadBack, WithoutOrient};
+ghost use Rattle.ebcot_contexts.specs.Laws.{FewSymbols};
 
 use mq_coder::inversion;
 

@@ -16,7 +16,11 @@
 #![tactic(auto)]
 
 mod laws;
+mod neighbours;
 mod tables;
+#[cfg(test)]
+mod tests;
 
 pub use laws::{few_symbols, meaning_holds, one_meaning, read_back, without_orient};
+pub use neighbours::{Neighbours, near};
 pub use tables::{refinement, sign, significance};

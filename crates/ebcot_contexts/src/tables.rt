@@ -1,6 +1,7 @@
 // The contexts of Annex D.3 by its tables.
 ghost use Rattle.std.specs.Prelude.{◌≡◌, ◌≤◌, ◌≤ℤ◌, negsuc, pos, ℕ, Bool};
-ghost use Rattle.ebcot_contexts.specs.Contexts.{lh_context, hh_context, significance_context, refinement_context, sign_context, contribution};
+ghost use Rattle.ebcot_contexts.specs.Contexts.{lh_context, hh_context, significance_context};
+ghost use Rattle.ebcot_contexts.specs.Contexts.{refinement_context, sign_context, contribution};
 
 use cine_nums::Orient;
 

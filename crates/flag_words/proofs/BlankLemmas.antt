@@ -1,16 +1,21 @@
 -- The words of a block of which nothing is known, and those of the next plane.
-use Rattle.std.proofs.Common.{ℕ, zero, suc, ◌+◌, ◌-◌, ◌*◌, ◌/◌, ◌%◌, ◌^◌, ◌<◌, ◌≤◌, ◌≡◌, ◌⊎◌, inl, inr, Bool, true, false, not, ◌&&◌, ◌||◌, ltb, leb, eqb, List, length, get_or, refl, sym, ap, ◌∙◌, arith, subst}
+use Rattle.std.proofs.Common.{ℕ, zero, suc, ◌+◌, ◌-◌, ◌*◌, ◌/◌, ◌%◌, ◌^◌, ◌<◌, ◌≤◌, ◌≡◌, ◌⊎◌, inl}
+use Rattle.std.proofs.Common.{inr, Bool, true, false, not, ◌&&◌, ◌||◌, ltb, leb, eqb, List, length}
+use Rattle.std.proofs.Common.{get_or, refl, sym, ap, ◌∙◌, arith, subst}
 use Rattle.std.specs.Prelude.{if◌then◌else◌, min, max, bit_and, nat_eq, nat_le, ◌==◌}
 use Rattle.std.specs.Int.{bit_at}
 use Rattle.std.specs.Int.RustNames.{bit_or}
-use Rattle.std.proofs.lemmas.Bool.{cases_eq, cases_lt, agree_below, agree_below_at, eqb-true, eq-eqb, eqb-false, lt-ltb, ltb-true, ltb-false, leb-true, leb-false, and_parts, not-true}
+use Rattle.std.proofs.lemmas.Bool.{cases_eq, cases_lt, agree_below, agree_below_at, eqb-true}
+use Rattle.std.proofs.lemmas.Bool.{eq-eqb, eqb-false, lt-ltb, ltb-true, ltb-false, leb-true}
+use Rattle.std.proofs.lemmas.Bool.{leb-false, and_parts, not-true}
 use Rattle.std.proofs.lemmas.List.{get_or_past, get_or-replicate, length-replicate}
 use Rattle.std.proofs.lemmas.Nat.Bits.{bit_at_and, bit_at_or, bit_at-lt}
 use Rattle.std.proofs.lemmas.Nat.{mul-add-lt, mul-le}
 use Rattle.ebcot_contexts.specs.Cells.{Cell, fresh, is_significant, cell_at, number}
 use Rattle.ebcot_contexts.specs.Contexts.{Shape, bordered}
 use Rattle.ebcot_contexts.specs.Passes.{start, is_untouched}
-use Rattle.flag_words.specs.Words.{row_of, column_of, flag_at, flag_of, around, IsFlagWord, AreFlags}
+use Rattle.flag_words.specs.Words.{row_of, column_of, flag_at, flag_of, around, IsFlagWord}
+use Rattle.flag_words.specs.Words.{AreFlags}
 use Rattle.flag_words.specs.Blank.{is_outside, blank_word, blank_of, next_of}
 use Rattle.flag_words.proofs.Runs.{or_cases}
 use Rattle.flag_words.proofs.Neighbours.{all, one}
@@ -20,13 +25,15 @@ abbrev is_touch : ℕ → Bool
 is_touch k = not (ltb k 18) && (not (k == 18 || k % 3 == 1) && not (k % 3 == 2))
 
 other_flag : (a b c s n f t t' : Bool) → (not a && (not b && not c)) ≡ false
-    → (if a then s else if b then n else if c then f else t) ≡ (if a then s else if b then n else if c then f else t')
+    → (if a then s else if b then n else if c then f else t)
+    ≡ (if a then s else if b then n else if c then f else t')
 other_flag true b c s n f t t' e = refl
 other_flag false true c s n f t t' e = refl
 other_flag false false true s n f t t' e = refl
 other_flag false false false s n f t t' e = cc
 
-touch_flag : (a b c s n f t : Bool) → (not a && (not b && not c)) ≡ true → (if a then s else if b then n else if c then f else t) ≡ t
+touch_flag : (a b c s n f t : Bool) → (not a && (not b && not c)) ≡ true →
+    (if a then s else if b then n else if c then f else t) ≡ t
 touch_flag true b c s n f t e = cc
 touch_flag false true c s n f t e = cc
 touch_flag false false true s n f t e = cc
@@ -35,7 +42,8 @@ touch_flag false false false s n f t e = refl
 abbrev touch_test : ℕ → Bool
 touch_test k = not (is_touch k) || (column_of k == 1 && ltb 0 (row_of k) && ltb (row_of k) 5)
 
-touch_place : (k : ℕ) → k < 32 → is_touch k ≡ true → (column_of k ≡ 1) × (0 < row_of k) × (row_of k < 5)
+touch_place : (k : ℕ) → k < 32 → is_touch k ≡ true →
+    (column_of k ≡ 1) × (0 < row_of k) × (row_of k < 5)
 touch_place k l e = elim (or_cases _ _ (agree_below_at touch_test (λ k. true) 32 k refl l)) [
   | inl f ↦ absurd (let g : false ≡ true = ap not (sym e) ∙ f in cc)
   | inr f ↦
@@ -49,16 +57,21 @@ pick r a b c d = if r == 1 then a else if r == 2 then b else if r == 3 then c el
 
 abbrev blank_test : Bool → Bool → Bool → Bool → Bool
 blank_test a b c d =
-    agree_below (λ k. bit_at (blank_word a b c d) k == number (flag_at k false false false (pick (row_of k) a b c d))) (λ k. true) 32
+    agree_below (λ k. bit_at (blank_word a b c d) k == number
+    (flag_at k false false false (pick (row_of k) a b c d))) (λ k. true) 32
 
 every_blank : all (λ a. all (λ b. all (λ c. all (λ d. blank_test a b c d)))) ≡ true
 every_blank = refl
 
-blank_bit : (a b c d : Bool) (k : ℕ) → k < 32 → bit_at (blank_word a b c d) k ≡ number (flag_at k false false false (pick (row_of k) a b c d))
+blank_bit : (a b c d : Bool) (k : ℕ) → k < 32 →
+    bit_at (blank_word a b c d) k ≡ number (flag_at k false false false (pick (row_of k) a b c d))
 blank_bit a b c d k l =
     eqb-true _ _
-    (agree_below_at (λ k. bit_at (blank_word a b c d) k == number (flag_at k false false false (pick (row_of k) a b c d))) (λ k. true) 32 k
-    (one (λ d. blank_test a b c d) (one (λ c. all (λ d. blank_test a b c d)) (one (λ b. all (λ c. all (λ d. blank_test a b c d)))
+    (agree_below_at (λ k. bit_at (blank_word a b c d) k == number
+    (flag_at k false false false (pick (row_of k) a b c d))) (λ k. true) 32 k
+    (one (λ d. blank_test a b c d)
+    (one (λ c. all (λ d. blank_test a b c d))
+    (one (λ b. all (λ c. all (λ d. blank_test a b c d)))
     (one (λ a. all (λ b. all (λ c. all (λ d. blank_test a b c d)))) every_blank a) b) c) d) l)
 
 -- a cell of a block of which nothing is known
@@ -66,22 +79,30 @@ either_if : (P : Cell → Type 0) (t : Bool) (x y : Cell) → P x → P y → P 
 either_if P true x y h k = h
 either_if P false x y h k = k
 
-start_cell : (P : Cell → Type 0) (s : Shape) (i : ℕ) → P (fresh s.planes) → P (fresh 0) → P (cell_at (start s) i)
+start_cell : (P : Cell → Type 0) (s : Shape) (i : ℕ) → P (fresh s.planes) → P (fresh 0) →
+    P (cell_at (start s) i)
 start_cell P s i h k =
     elim (cases_lt i (s.width * s.height)) [
-      | inl l ↦ subst P (sym (get_or-replicate (s.width * s.height) i (fresh s.planes) (fresh 0) l)) h
-      | inr l ↦ subst P (sym (get_or_past (start s) i (fresh 0) (let e : length (start s) ≡ s.width * s.height = length-replicate (s.width * s.height) (fresh s.planes) in omega (arith, e)))) k
+      | inl l ↦ subst P (sym (get_or-replicate (s.width * s.height) i (fresh s.planes)
+          (fresh 0) l)) h
+      | inr l ↦ subst P (sym (get_or_past (start s) i (fresh 0)
+          (let e : length (start s) ≡ s.width * s.height =
+          length-replicate (s.width * s.height) (fresh s.planes) in omega (arith, e)))) k
     ]
 
-start_bordered : (P : Cell → Type 0) (s : Shape) (bx by : ℕ) → P (fresh s.planes) → P (fresh 0) → P (bordered s.width (start s) bx by)
+start_bordered : (P : Cell → Type 0) (s : Shape) (bx by : ℕ) → P (fresh s.planes) → P (fresh 0) →
+    P (bordered s.width (start s) bx by)
 start_bordered P s zero by h k = k
 start_bordered P s (suc x) zero h k = k
-start_bordered P s (suc x) (suc y) h k = either_if P (ltb x s.width) (cell_at (start s) (y * s.width + x)) (fresh 0) (start_cell P s (y * s.width + x) h k) k
+start_bordered P s (suc x) (suc y) h k =
+    either_if P (ltb x s.width) (cell_at (start s) (y * s.width + x)) (fresh 0)
+    (start_cell P s (y * s.width + x) h k) k
 
 abbrev Flat : Cell → Type 0
 Flat c = (is_significant c ≡ false) × (c.negative ≡ false) × (nat_le 2 c.magnitude ≡ false)
 
-flat_flag : (q k : ℕ) (c : Cell) → Flat c → flag_of q k c ≡ flag_at k false false false (not (is_untouched q c))
+flat_flag : (q k : ℕ) (c : Cell) → Flat c →
+    flag_of q k c ≡ flag_at k false false false (not (is_untouched q c))
 flat_flag q k c f = λ j. flag_at k (f.0 j) (f.1 j) (f.2 j) (not (is_untouched q c))
 
 none_outside : (q : ℕ) → is_untouched q (fresh 0) ≡ false
@@ -103,10 +124,12 @@ module _ (s : Shape) (some : 1 ≤ s.planes) where
   abbrev q : ℕ
   q = s.planes - 1
 
-  at_inside : (x y : ℕ) → x < s.width → y < s.height → is_untouched q (bordered s.width (start s) (suc x) (suc y)) ≡ true
+  at_inside : (x y : ℕ) → x < s.width → y < s.height →
+      is_untouched q (bordered s.width (start s) (suc x) (suc y)) ≡ true
   at_inside x y lx ly =
       let l : y * s.width + x < s.width * s.height = mul-add-lt y s.width x s.height ly lx in
-      ap (is_untouched q) (if_true (ltb x s.width) (cell_at (start s) (y * s.width + x)) (fresh 0) (lt-ltb x s.width lx)
+      ap (is_untouched q) (if_true (ltb x s.width) (cell_at (start s) (y * s.width + x)) (fresh 0)
+      (lt-ltb x s.width lx)
       ∙ get_or-replicate (s.width * s.height) (y * s.width + x) (fresh s.planes) (fresh 0) l)
       ∙ eq-eqb s.planes (suc q) (omega arith)
 
@@ -114,17 +137,22 @@ module _ (s : Shape) (some : 1 ≤ s.planes) where
   at_right x zero l = none_outside q
   at_right x (suc y) l = by (ltb x s.width) refl
     where
-      by : (t : Bool) → ltb x s.width ≡ t → is_untouched q (if t then cell_at (start s) (y * s.width + x) else fresh 0) ≡ false
+      by : (t : Bool) → ltb x s.width ≡ t →
+          is_untouched q (if t then cell_at (start s) (y * s.width + x) else fresh 0) ≡ false
       by true e = absurd (let m : x < s.width = ltb-true x s.width e in omega arith)
       by false e = none_outside q
 
-  at_below : (bx y : ℕ) → s.height ≤ y → is_untouched q (bordered s.width (start s) bx (suc y)) ≡ false
+  at_below : (bx y : ℕ) → s.height ≤ y →
+      is_untouched q (bordered s.width (start s) bx (suc y)) ≡ false
   at_below zero y l = none_outside q
   at_below (suc x) y l =
-      either_if (λ c. is_untouched q c ≡ false) (ltb x s.width) (cell_at (start s) (y * s.width + x)) (fresh 0)
+      either_if (λ c. is_untouched q c ≡ false) (ltb x s.width)
+      (cell_at (start s) (y * s.width + x)) (fresh 0)
       (ap (is_untouched q) (get_or_past (start s) (y * s.width + x) (fresh 0)
-      (let e : length (start s) ≡ s.width * s.height = length-replicate (s.width * s.height) (fresh s.planes) in
-      let m : s.width * s.height ≤ s.width * y = mul-le s.width s.height s.width y (omega arith) l in
+      (let e : length (start s) ≡ s.width * s.height =
+      length-replicate (s.width * s.height) (fresh s.planes) in
+      let m : s.width * s.height ≤ s.width * y =
+      mul-le s.width s.height s.width y (omega arith) l in
       let c : s.width * y ≡ y * s.width = omega arith in
       omega (arith, e))) ∙ none_outside q)
       (none_outside q)
@@ -136,14 +164,16 @@ module _ (s : Shape) (some : 1 ≤ s.planes) where
   at_above zero = none_outside q
   at_above (suc x) = none_outside q
 
-  parts : (a b c d : Bool) → (a || b || c || d) ≡ false → (a ≡ false) × (b ≡ false) × (c ≡ false) × (d ≡ false)
+  parts : (a b c d : Bool) → (a || b || c || d) ≡ false →
+      (a ≡ false) × (b ≡ false) × (c ≡ false) × (d ≡ false)
   parts false false false false e = (refl, refl, refl, refl)
   parts true b c d e = cc
   parts false true c d e = cc
   parts false false true d e = cc
   parts false false false true e = cc
 
-  four_cases : (a b c d : Bool) → (a || b || c || d) ≡ true → ((a ≡ true) ⊎ (b ≡ true)) ⊎ ((c ≡ true) ⊎ (d ≡ true))
+  four_cases : (a b c d : Bool) → (a || b || c || d) ≡ true →
+      ((a ≡ true) ⊎ (b ≡ true)) ⊎ ((c ≡ true) ⊎ (d ≡ true))
   four_cases true b c d e = inl (inl refl)
   four_cases false true c d e = inl (inr refl)
   four_cases false false true d e = inr (inl refl)
@@ -159,21 +189,27 @@ module _ (s : Shape) (some : 1 ≤ s.planes) where
           | inl f ↦
               let z : x ≡ 0 = eqb-true x 0 f in
               let zz : x + 1 - 1 ≡ 0 = omega arith in
-              ap not (ap (λ (v : ℕ). is_untouched q (bordered s.width (start s) v (4 * y + suc r - 4))) zz ∙ at_left (4 * y + suc r - 4))
+              ap not (ap (λ (v : ℕ). is_untouched q
+              (bordered s.width (start s) v (4 * y + suc r - 4))) zz
+              ∙ at_left (4 * y + suc r - 4))
           | inr f ↦
               let m : s.width < x = ltb-true s.width x f in
               let zz : x + 1 - 1 ≡ suc (x - 1) = omega arith in
-              ap not (ap (λ (v : ℕ). is_untouched q (bordered s.width (start s) v (4 * y + suc r - 4))) zz ∙ at_right (x - 1) (4 * y + suc r - 4) (omega arith))
+              ap not (ap (λ (v : ℕ). is_untouched q
+              (bordered s.width (start s) v (4 * y + suc r - 4))) zz
+              ∙ at_right (x - 1) (4 * y + suc r - 4) (omega arith))
         ]
         | inr h ↦ elim h [
           | inl f ↦
               let z : y ≡ 0 = eqb-true y 0 f in
               let zz : 4 * y + suc r - 4 ≡ 0 = omega arith in
-              ap not (ap (λ (v : ℕ). is_untouched q (bordered s.width (start s) (x + 1 - 1) v)) zz ∙ at_above (x + 1 - 1))
+              ap not (ap (λ (v : ℕ). is_untouched q (bordered s.width (start s) (x + 1 - 1) v)) zz
+              ∙ at_above (x + 1 - 1))
           | inr f ↦
               let m : s.height + 4 ≤ 4 * y + r = leb-true (s.height + 4) (4 * y + r) f in
               let zz : 4 * y + suc r - 4 ≡ suc (4 * y + r - 4) = omega arith in
-              ap not (ap (λ (v : ℕ). is_untouched q (bordered s.width (start s) (x + 1 - 1) v)) zz ∙ at_below (x + 1 - 1) (4 * y + r - 4) (omega arith))
+              ap not (ap (λ (v : ℕ). is_untouched q (bordered s.width (start s) (x + 1 - 1) v)) zz
+              ∙ at_below (x + 1 - 1) (4 * y + r - 4) (omega arith))
         ]
       ]
   edge x y r l false e =
@@ -189,7 +225,8 @@ module _ (s : Shape) (some : 1 ≤ s.planes) where
       ∙ at_inside (x - 1) (4 * y + r - 4) (omega arith) (omega arith))
 
   picked : (x y r : ℕ) → 0 < r → r < 5
-      → pick r (is_outside s.width s.height x y 0) (is_outside s.width s.height x y 1) (is_outside s.width s.height x y 2) (is_outside s.width s.height x y 3)
+      → pick r (is_outside s.width s.height x y 0) (is_outside s.width s.height x y 1)
+      (is_outside s.width s.height x y 2) (is_outside s.width s.height x y 3)
       ≡ not (is_untouched q (around s.width (start s) x y r 1))
   picked x y zero lo hi = absurd (omega arith)
   picked x y (suc zero) lo hi = sym (edge x y 0 (omega arith) _ refl)
@@ -199,24 +236,35 @@ module _ (s : Shape) (some : 1 ≤ s.planes) where
   picked x y (suc (suc (suc (suc (suc r))))) lo hi = absurd (omega arith)
 
   blank_flag : (x y k : ℕ) → k < 32
-      → bit_at (blank_word (is_outside s.width s.height x y 0) (is_outside s.width s.height x y 1) (is_outside s.width s.height x y 2) (is_outside s.width s.height x y 3)) k
+      → bit_at (blank_word (is_outside s.width s.height x y 0) (is_outside s.width s.height x y 1)
+      (is_outside s.width s.height x y 2) (is_outside s.width s.height x y 3)) k
       ≡ number (flag_of q k (around s.width (start s) x y (row_of k) (column_of k)))
   blank_flag x y k l =
       let c : Cell = around s.width (start s) x y (row_of k) (column_of k) in
-      let flat : Flat c = start_bordered Flat s (x + column_of k - 1) (4 * y + row_of k - 4) (refl, refl, refl) (refl, refl, refl) in
+      let flat : Flat c = start_bordered Flat s (x + column_of k - 1) (4 * y + row_of k - 4)
+      (refl, refl, refl) (refl, refl, refl) in
       blank_bit _ _ _ _ k l ∙ ap number (by c (is_touch k) refl ∙ sym (flat_flag q k c flat))
     where
       o : ℕ → Bool
       o r = is_outside s.width s.height x y r
 
-      by : (c : Cell) (t : Bool) → is_touch k ≡ t → flag_at k false false false (pick (row_of k) (is_outside s.width s.height x y 0) (is_outside s.width s.height x y 1) (is_outside s.width s.height x y 2) (is_outside s.width s.height x y 3))
-          ≡ flag_at k false false false (not (is_untouched q (around s.width (start s) x y (row_of k) (column_of k))))
-      by c false e = other_flag (ltb k 18) (k == 18 || k % 3 == 1) (k % 3 == 2) false false false _ _ e
+      by : (c : Cell) (t : Bool) → is_touch k ≡ t →
+          flag_at k false false false (pick (row_of k) (is_outside s.width s.height x y 0)
+          (is_outside s.width s.height x y 1) (is_outside s.width s.height x y 2)
+          (is_outside s.width s.height x y 3))
+          ≡ flag_at k false false false (not
+          (is_untouched q (around s.width (start s) x y (row_of k) (column_of k))))
+      by c false e = other_flag (ltb k 18) (k == 18 || k % 3 == 1)
+          (k % 3 == 2) false false false _ _ e
       by c true e =
           let at = touch_place k l e in
-          ap (flag_at k false false false) (picked x y (row_of k) at.1 at.2 ∙ ap (λ (v : ℕ). not (is_untouched q (around s.width (start s) x y (row_of k) v))) (sym at.0))
+          ap (flag_at k false false false)
+          (picked x y (row_of k) at.1 at.2
+          ∙ ap (λ (v : ℕ). not (is_untouched q (around s.width (start s) x y (row_of k) v)))
+          (sym at.0))
 
-  pub blank_flags : (words : List ℕ) → length words ≡ 340 → ((n : ℕ) → n < 340 → get_or words n 0 ≡ blank_of s.width s.height n)
+  pub blank_flags : (words : List ℕ) → length words ≡ 340 →
+      ((n : ℕ) → n < 340 → get_or words n 0 ≡ blank_of s.width s.height n)
       → AreFlags s.width q (start s) words
   blank_flags words long each =
       record {
@@ -226,32 +274,46 @@ module _ (s : Shape) (some : 1 ≤ s.planes) where
             let ex : n % 34 ≡ x = omega arith in
             let ey : n / 34 ≡ y = omega arith in
             ap (λ (v : ℕ). bit_at v k) (each n (omega arith)
-            ∙ (λ j. blank_word (is_outside s.width s.height (ex j) (ey j) 0) (is_outside s.width s.height (ex j) (ey j) 1) (is_outside s.width s.height (ex j) (ey j) 2) (is_outside s.width s.height (ex j) (ey j) 3)))
+            ∙ (λ j. blank_word (is_outside s.width s.height (ex j) (ey j) 0)
+            (is_outside s.width s.height (ex j) (ey j) 1)
+            (is_outside s.width s.height (ex j) (ey j) 2)
+            (is_outside s.width s.height (ex j) (ey j) 3)))
             ∙ blank_flag x y k l;
       }
 
   -- a place is untouched in the plane below exactly if it is in the block
-  below_by : (p : ℕ) (cells : List Cell) → length cells ≡ s.width * s.height → ((i : ℕ) → i < s.width * s.height → (cell_at cells i).unknown ≡ suc p)
+  below_by : (p : ℕ) (cells : List Cell) → length cells ≡ s.width * s.height →
+      ((i : ℕ) → i < s.width * s.height → (cell_at cells i).unknown ≡ suc p)
       → (i : ℕ) → is_untouched q (cell_at (start s) i) ≡ is_untouched p (cell_at cells i)
   below_by p cells long u i =
       elim (cases_lt i (s.width * s.height)) [
         | inl l ↦
-            ap (is_untouched q) (get_or-replicate (s.width * s.height) i (fresh s.planes) (fresh 0) l) ∙ eq-eqb s.planes (suc q) (omega arith)
+            ap (is_untouched q) (get_or-replicate (s.width * s.height) i (fresh s.planes)
+            (fresh 0) l) ∙ eq-eqb s.planes (suc q) (omega arith)
             ∙ sym (eq-eqb (cell_at cells i).unknown (suc p) (u i l))
         | inr l ↦
-            ap (is_untouched q) (get_or_past (start s) i (fresh 0) (let e : length (start s) ≡ s.width * s.height = length-replicate (s.width * s.height) (fresh s.planes) in omega (arith, e))) ∙ none_outside q
-            ∙ sym (ap (is_untouched p) (get_or_past cells i (fresh 0) (omega (arith, long))) ∙ none_outside p)
+            ap (is_untouched q) (get_or_past (start s) i (fresh 0)
+            (let e : length (start s) ≡ s.width * s.height =
+            length-replicate (s.width * s.height) (fresh s.planes) in omega (arith, e)))
+            ∙ none_outside q
+            ∙ sym (ap (is_untouched p) (get_or_past cells i (fresh 0) (omega (arith, long)))
+            ∙ none_outside p)
       ]
 
-  both_if : (p : ℕ) (t : Bool) (x y : Cell) → is_untouched q x ≡ is_untouched p y → is_untouched q (if t then x else fresh 0) ≡ is_untouched p (if t then y else fresh 0)
+  both_if : (p : ℕ) (t : Bool) (x y : Cell) → is_untouched q x ≡ is_untouched p y →
+      is_untouched q (if t then x else fresh 0) ≡ is_untouched p (if t then y else fresh 0)
   both_if p true x y e = e
   both_if p false x y e = none_outside q ∙ sym (none_outside p)
 
-  below_bordered : (p : ℕ) (cells : List Cell) → ((i : ℕ) → is_untouched q (cell_at (start s) i) ≡ is_untouched p (cell_at cells i))
-      → (bx by : ℕ) → is_untouched q (bordered s.width (start s) bx by) ≡ is_untouched p (bordered s.width cells bx by)
+  below_bordered : (p : ℕ) (cells : List Cell) →
+      ((i : ℕ) → is_untouched q (cell_at (start s) i) ≡ is_untouched p (cell_at cells i))
+      → (bx by : ℕ) → is_untouched q (bordered s.width (start s) bx by)
+      ≡ is_untouched p (bordered s.width cells bx by)
   below_bordered p cells h zero by = none_outside q ∙ sym (none_outside p)
   below_bordered p cells h (suc x) zero = none_outside q ∙ sym (none_outside p)
-  below_bordered p cells h (suc x) (suc y) = both_if p (ltb x s.width) (cell_at (start s) (y * s.width + x)) (cell_at cells (y * s.width + x)) (h (y * s.width + x))
+  below_bordered p cells h (suc x) (suc y) =
+      both_if p (ltb x s.width) (cell_at (start s) (y * s.width + x))
+      (cell_at cells (y * s.width + x)) (h (y * s.width + x))
 
   abbrev kept_mask : ℕ
   kept_mask = 0xB6DFFFFF
@@ -265,9 +327,12 @@ module _ (s : Shape) (some : 1 ≤ s.planes) where
   same_bit : (n b m : ℕ) → n < 2 → m ≡ 1 → b ≡ 0 → max (min n m) b ≡ n
   same_bit n b m l e f = omega arith
 
-  pub next_flags : (p : ℕ) (cells : List Cell) (words blank after : List ℕ) → AreFlags s.width q (start s) blank
-      → length cells ≡ s.width * s.height → ((i : ℕ) → i < s.width * s.height → (cell_at cells i).unknown ≡ suc p)
-      → length after ≡ 340 → ((n : ℕ) → n < 340 → get_or after n 0 ≡ next_of (get_or words n 0) (get_or blank n 0))
+  pub next_flags : (p : ℕ) (cells : List Cell) (words blank after : List ℕ) →
+      AreFlags s.width q (start s) blank
+      → length cells ≡ s.width * s.height →
+      ((i : ℕ) → i < s.width * s.height → (cell_at cells i).unknown ≡ suc p)
+      → length after ≡ 340 → ((n : ℕ) → n < 340 →
+      get_or after n 0 ≡ next_of (get_or words n 0) (get_or blank n 0))
       → AreFlags s.width (suc p) cells words → AreFlags s.width p cells after
   next_flags p cells words blank after ab lc u la each aw =
       record {
@@ -276,28 +341,44 @@ module _ (s : Shape) (some : 1 ≤ s.planes) where
             let n : ℕ = 34 * y + x in
             let c : Cell = around s.width cells x y (row_of k) (column_of k) in
             let d : Cell = around s.width (start s) x y (row_of k) (column_of k) in
-            let here : is_untouched q d ≡ is_untouched p c = below_bordered p cells (below_by p cells lc u) (x + column_of k - 1) (4 * y + row_of k - 4) in
+            let here : is_untouched q d ≡ is_untouched p c =
+            below_bordered p cells (below_by p cells lc u) (x + column_of k - 1)
+            (4 * y + row_of k - 4) in
             ap (λ (v : ℕ). bit_at v k) (each n (omega arith))
             ∙ bit_at_or (bit_and (get_or words n 0) kept_mask) (get_or blank n 0) k
-            ∙ ap (λ (v : ℕ). max v (bit_at (get_or blank n 0) k)) (bit_at_and (get_or words n 0) kept_mask k)
-            ∙ at k l c d (bit_at (get_or words n 0) k) (bit_at (get_or blank n 0) k) (bit_at-lt (get_or words n 0) k) (aw.each x y lx ly k l) (ab.each x y lx ly k l)
-            (start_bordered Flat s (x + column_of k - 1) (4 * y + row_of k - 4) (refl, refl, refl) (refl, refl, refl)) here (is_touch k) refl;
+            ∙ ap (λ (v : ℕ). max v (bit_at (get_or blank n 0) k))
+            (bit_at_and (get_or words n 0) kept_mask k)
+            ∙ at k l c d (bit_at (get_or words n 0) k) (bit_at (get_or blank n 0) k)
+            (bit_at-lt (get_or words n 0) k) (aw.each x y lx ly k l) (ab.each x y lx ly k l)
+            (start_bordered Flat s (x + column_of k - 1) (4 * y + row_of k - 4) (refl, refl, refl)
+            (refl, refl, refl)) here (is_touch k) refl;
       }
     where
-      at : (k : ℕ) → k < 32 → (c d : Cell) (n b : ℕ) → n < 2 → n ≡ number (flag_of (suc p) k c) → b ≡ number (flag_of q k d) → Flat d
-          → is_untouched q d ≡ is_untouched p c → (t : Bool) → is_touch k ≡ t → max (min n (bit_at kept_mask k)) b ≡ number (flag_of p k c)
+      at : (k : ℕ) → k < 32 → (c d : Cell) (n b : ℕ) → n < 2 → n ≡ number (flag_of (suc p) k c) →
+          b ≡ number (flag_of q k d) → Flat d
+          → is_untouched q d ≡ is_untouched p c → (t : Bool) → is_touch k ≡ t →
+          max (min n (bit_at kept_mask k)) b ≡ number (flag_of p k c)
       at k l c d n b few en eb flat here true e =
-          let m : bit_at kept_mask k ≡ number (not (is_touch k)) = eqb-true _ _ (agree_below_at kept_test (λ k. true) 32 k refl l) in
+          let m : bit_at kept_mask k ≡ number (not (is_touch k)) =
+          eqb-true _ _ (agree_below_at kept_test (λ k. true) 32 k refl l) in
           next_bit n b (bit_at kept_mask k) (m ∙ ap (λ (v : Bool). number (not v)) e)
-          ∙ eb ∙ ap number (touch_flag (ltb k 18) (k == 18 || k % 3 == 1) (k % 3 == 2) _ _ _ (not (is_untouched q d)) e
-          ∙ ap not here ∙ sym (touch_flag (ltb k 18) (k == 18 || k % 3 == 1) (k % 3 == 2) (is_significant c) c.negative (nat_le 2 c.magnitude) (not (is_untouched p c)) e))
+          ∙ eb ∙ ap number (touch_flag (ltb k 18) (k == 18 || k % 3 == 1) (k % 3 == 2) _ _ _
+          (not (is_untouched q d)) e
+          ∙ ap not here ∙ sym (touch_flag (ltb k 18) (k == 18 || k % 3 == 1) (k % 3 == 2)
+          (is_significant c) c.negative (nat_le 2 c.magnitude) (not (is_untouched p c)) e))
       at k l c d n b few en eb flat here false e =
-          let m : bit_at kept_mask k ≡ number (not (is_touch k)) = eqb-true _ _ (agree_below_at kept_test (λ k. true) 32 k refl l) in
+          let m : bit_at kept_mask k ≡ number (not (is_touch k)) =
+          eqb-true _ _ (agree_below_at kept_test (λ k. true) 32 k refl l) in
           same_bit n b (bit_at kept_mask k) few (m ∙ ap (λ (v : Bool). number (not v)) e)
-          (eb ∙ ap number (flat_flag q k d flat ∙ other_flag (ltb k 18) (k == 18 || k % 3 == 1) (k % 3 == 2) false false false (not (is_untouched q d)) false e ∙ none k))
-          ∙ en ∙ ap number (other_flag (ltb k 18) (k == 18 || k % 3 == 1) (k % 3 == 2) (is_significant c) c.negative (nat_le 2 c.magnitude) (not (is_untouched (suc p) c)) (not (is_untouched p c)) e)
+          (eb ∙ ap number (flat_flag q k d flat
+          ∙ other_flag (ltb k 18) (k == 18 || k % 3 == 1) (k % 3 == 2) false false false
+          (not (is_untouched q d)) false e ∙ none k))
+          ∙ en ∙ ap number (other_flag (ltb k 18) (k == 18 || k % 3 == 1) (k % 3 == 2)
+          (is_significant c) c.negative (nat_le 2 c.magnitude) (not (is_untouched (suc p) c))
+          (not (is_untouched p c)) e)
         where
-          by : (a b c : Bool) → (if a then false else if b then false else if c then false else false) ≡ false
+          by : (a b c : Bool) →
+              (if a then false else if b then false else if c then false else false) ≡ false
           by true b c = refl
           by false true c = refl
           by false false true = refl

@@ -9,7 +9,8 @@ use Rattle.ebcot_contexts.specs.Contexts.{lh_context, hh_context, significance_c
 use Rattle.flag_words.specs.Lookups.{neighbour_context}
 
 lh_if : (a b c e f g t : Bool) (d : ℕ) → (t ≡ false → d ≤ 8)
-    → (if a then 8 else if b then (if c then 7 else if e then 6 else 5) else if f then 4 else if g then 3 else if t then 2 else d) ≤ 8
+    → (if a then 8 else if b then
+    (if c then 7 else if e then 6 else 5) else if f then 4 else if g then 3 else if t then 2 else d) ≤ 8
 lh_if true b c e f g t d h = omega arith
 lh_if false true true e f g t d h = omega arith
 lh_if false true false true f g t d h = omega arith
@@ -24,10 +25,12 @@ below_two d e = let l : d < 2 = leb-false 2 d e in omega arith
 
 lh_few : (h v d : ℕ) → lh_context h v d ≤ 8
 unfolding lh_context
-lh_few h v d = lh_if (h == 2) (h == 1) (nat_le 1 v) (nat_le 1 d) (v == 2) (v == 1) (nat_le 2 d) d (below_two d)
+lh_few h v d = lh_if (h == 2) (h == 1) (nat_le 1 v) (nat_le 1 d) (v == 2) (v == 1) (nat_le 2 d) d
+    (below_two d)
 
 hh_if : (a b c e f t : Bool) (s : ℕ) → (f ≡ false → s ≤ 8) → (t ≡ false → s ≤ 8)
-    → (if a then 8 else if b then (if c then 7 else 6) else if e then (if f then 5 else 3 + s) else if t then 2 else s) ≤ 8 + 3
+    → (if a then 8 else if b then (if c then 7 else 6) else if e then
+    (if f then 5 else 3 + s) else if t then 2 else s) ≤ 8 + 3
 hh_if true b c e f t s h k = omega arith
 hh_if false true true e f t s h k = omega arith
 hh_if false true false e f t s h k = omega arith
@@ -38,7 +41,8 @@ hh_if false false c false f false s h k = let l : s ≤ 8 = k refl in omega arit
 
 hh_few : (hv d : ℕ) → hh_context hv d ≤ 11
 unfolding hh_context
-hh_few hv d = hh_if (nat_le 3 d) (d == 2) (nat_le 1 hv) (d == 1) (nat_le 2 hv) (nat_le 2 hv) hv (below_two hv) (below_two hv)
+hh_few hv d = hh_if (nat_le 3 d) (d == 2) (nat_le 1 hv) (d == 1) (nat_le 2 hv) (nat_le 2 hv) hv
+    (below_two hv) (below_two hv)
 
 few_of : (o : Orient) (h v d : ℕ) → significance_context o h v d ≤ 11
 few_of LL h v d = let l : lh_context h v d ≤ 8 = lh_few h v d in omega arith
@@ -50,6 +54,8 @@ few_of HH h v d = hh_few (h + v) d
 pub neighbour_few : (o : Orient) (k : ℕ) → neighbour_context o k < 19
 unfolding neighbour_context
 neighbour_few o k =
-    let l : significance_context o (bit_at k 3 + bit_at k 5) (bit_at k 1 + bit_at k 7) (bit_at k 0 + bit_at k 2 + (bit_at k 6 + bit_at k 8)) ≤ 11 =
-    few_of o (bit_at k 3 + bit_at k 5) (bit_at k 1 + bit_at k 7) (bit_at k 0 + bit_at k 2 + (bit_at k 6 + bit_at k 8)) in
+    let l : significance_context o (bit_at k 3 + bit_at k 5) (bit_at k 1 + bit_at k 7)
+    (bit_at k 0 + bit_at k 2 + (bit_at k 6 + bit_at k 8)) ≤ 11 =
+    few_of o (bit_at k 3 + bit_at k 5) (bit_at k 1 + bit_at k 7)
+    (bit_at k 0 + bit_at k 2 + (bit_at k 6 + bit_at k 8)) in
     omega arith

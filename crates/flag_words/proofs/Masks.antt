@@ -1,5 +1,6 @@
 -- Which bits of a word a change of one cell sets.
-use Rattle.std.proofs.Common.{ℕ, zero, suc, ◌+◌, ◌*◌, ◌%◌, ◌^◌, ◌<◌, ◌≡◌, Bool, true, false, not, ◌&&◌, ltb, eqb, List, refl, sym, ap, ◌∙◌, arith, subst}
+use Rattle.std.proofs.Common.{ℕ, zero, suc, ◌+◌, ◌*◌, ◌%◌, ◌^◌, ◌<◌, ◌≡◌, Bool, true, false, not}
+use Rattle.std.proofs.Common.{◌&&◌, ltb, eqb, List, refl, sym, ap, ◌∙◌, arith, subst}
 use Rattle.std.specs.Prelude.{if◌then◌else◌, max, nat_le, ◌==◌}
 use Rattle.std.specs.Int.{bit_at}
 use Rattle.std.specs.Int.RustNames.{bit_or}
@@ -17,7 +18,8 @@ pub record Has (p : ℕ) (c : Cell) (s n f t : Bool) : Type 0 where
   pub refined : nat_le 2 c.magnitude ≡ f
   pub touched : not (is_untouched p c) ≡ t
 
-has_flag : (p k : ℕ) (c : Cell) (s n f t : Bool) → Has p c s n f t → flag_of p k c ≡ flag_at k s n f t
+has_flag : (p k : ℕ) (c : Cell) (s n f t : Bool) → Has p c s n f t →
+    flag_of p k c ≡ flag_at k s n f t
 has_flag p k c s n f t h =
     λ j. flag_at k (h.significant j) (h.negative j) (h.refined j) (h.touched j)
 
@@ -29,7 +31,8 @@ fits_at r c mask s n f t s' n' f' t' k =
     else bit_at mask k == 0
 
 abbrev pub fits : ℕ → ℕ → ℕ → Bool → Bool → Bool → Bool → Bool → Bool → Bool → Bool → Bool
-fits r c mask s n f t s' n' f' t' = agree_below (fits_at r c mask s n f t s' n' f' t') (λ k. true) 32
+fits r c mask s n f t s' n' f' t' =
+    agree_below (fits_at r c mask s n f t s' n' f' t') (λ k. true) 32
 
 inside : (a b x y : Bool) → a ≡ true → b ≡ true → (if a && b then x else y) ≡ true → x ≡ true
 inside true true x y ea eb e = e
@@ -44,22 +47,30 @@ outside false b x y apart e = e
 largest_zero : (n m : ℕ) → m ≡ 0 → max n m ≡ n
 largest_zero n m e = omega arith
 
-pub or_changes : (w p : ℕ) (cells : List Cell) (i : ℕ) (d : Cell) (column stripe r c word mask : ℕ) (s n f t s' n' f' t' : Bool)
-    → fits r c mask s n f t s' n' f' t' ≡ true → Has p (cell_at cells i) s n f t → Has p d s' n' f' t'
+pub or_changes : (w p : ℕ) (cells : List Cell) (i : ℕ) (d : Cell) (column stripe r c word mask : ℕ)
+    (s n f t s' n' f' t' : Bool)
+    → fits r c mask s n f t s' n' f' t' ≡ true → Has p (cell_at cells i) s n f t →
+    Has p d s' n' f' t'
     → Changes w p cells i d column stripe r c word (bit_or word mask)
 or_changes w p cells i d column stripe r c word mask s n f t s' n' f' t' fit old now =
     record {
       there = λ k l er ec e.
-          let at : fits_at r c mask s n f t s' n' f' t' k ≡ true = agree_below_at (fits_at r c mask s n f t s' n' f' t') (λ k. true) 32 k fit l in
-          let sum : (max (number (flag_at k s n f t)) (bit_at mask k) == number (flag_at k s' n' f' t')) ≡ true =
-          inside (row_of k == r) (column_of k == c) _ _ (eq-eqb (row_of k) r er) (eq-eqb (column_of k) c ec) at in
+          let at : fits_at r c mask s n f t s' n' f' t' k ≡ true =
+          agree_below_at (fits_at r c mask s n f t s' n' f' t') (λ k. true) 32 k fit l in
+          let sum : (max (number (flag_at k s n f t)) (bit_at mask k) == number
+          (flag_at k s' n' f' t')) ≡ true =
+          inside (row_of k == r) (column_of k == c) _ _ (eq-eqb (row_of k) r er)
+          (eq-eqb (column_of k) c ec) at in
           bit_at_or word mask k
-          ∙ ap (λ (v : ℕ). max v (bit_at mask k)) (e ∙ ap number (has_flag p k (cell_at cells i) s n f t old))
+          ∙ ap (λ (v : ℕ). max v (bit_at mask k))
+          (e ∙ ap number (has_flag p k (cell_at cells i) s n f t old))
           ∙ eqb-true _ _ sum
           ∙ ap number (sym (has_flag p k d s' n' f' t' now));
       elsewhere = λ k l apart.
-          let at : fits_at r c mask s n f t s' n' f' t' k ≡ true = agree_below_at (fits_at r c mask s n f t s' n' f' t') (λ k. true) 32 k fit l in
+          let at : fits_at r c mask s n f t s' n' f' t' k ≡ true =
+          agree_below_at (fits_at r c mask s n f t s' n' f' t') (λ k. true) 32 k fit l in
           let none : (bit_at mask k == 0) ≡ true =
-          outside (row_of k == r) (column_of k == c) _ _ (λ er ec. apart (eqb-true _ _ er, eqb-true _ _ ec)) at in
+          outside (row_of k == r) (column_of k == c) _ _
+          (λ er ec. apart (eqb-true _ _ er, eqb-true _ _ ec)) at in
           bit_at_or word mask k ∙ largest_zero (bit_at word k) (bit_at mask k) (eqb-true _ _ none);
     }

@@ -8,8 +8,8 @@ ghost use Rattle.flag_words.specs.Lookups.{neighbour_context, neighbours_of};
 use crate::bits::neighbours;
 use cine_nums::Orient;
 
-/// Table D.1 for LL and LH, by the significance of the eight neighbours: bit 3 j + c of an index is that of row j
-/// and column c around the place, and bit 4 counts for nothing.
+/// Table D.1 for LL and LH, by the significance of the eight neighbours: bit 3 j + c of an index is
+/// that of row j and column c around the place, and bit 4 counts for nothing.
 #[rattlefmt::skip]
 static LH_CONTEXTS: [u8; 512] = [
     0, 1, 3, 3, 1, 2, 3, 3, 5, 6, 7, 7, 6, 6, 7, 7, 0, 1, 3, 3, 1, 2, 3, 3,
@@ -36,8 +36,8 @@ static LH_CONTEXTS: [u8; 512] = [
     8, 8, 8, 8, 8, 8, 8, 8,
 ];
 
-/// Table D.1 for HL, by the significance of the eight neighbours: bit 3 j + c of an index is that of row j
-/// and column c around the place, and bit 4 counts for nothing.
+/// Table D.1 for HL, by the significance of the eight neighbours: bit 3 j + c of an index is that
+/// of row j and column c around the place, and bit 4 counts for nothing.
 #[rattlefmt::skip]
 static HL_CONTEXTS: [u8; 512] = [
     0, 1, 5, 6, 1, 2, 6, 6, 3, 3, 7, 7, 3, 3, 7, 7, 0, 1, 5, 6, 1, 2, 6, 6,
@@ -64,8 +64,8 @@ static HL_CONTEXTS: [u8; 512] = [
     7, 7, 8, 8, 7, 7, 8, 8,
 ];
 
-/// Table D.1 for HH, by the significance of the eight neighbours: bit 3 j + c of an index is that of row j
-/// and column c around the place, and bit 4 counts for nothing.
+/// Table D.1 for HH, by the significance of the eight neighbours: bit 3 j + c of an index is that
+/// of row j and column c around the place, and bit 4 counts for nothing.
 #[rattlefmt::skip]
 static HH_CONTEXTS: [u8; 512] = [
     0, 3, 1, 4, 3, 6, 4, 7, 1, 4, 2, 5, 4, 7, 5, 7, 0, 3, 1, 4, 3, 6, 4, 7,
@@ -111,7 +111,8 @@ pub fn significance_context(contexts: &[u8; 512], word: u32, r: u32) -> u8
     ensures entry { result ≡ get_or contexts.now (neighbours_of word r) 0 }
     ensures context { (s : Shape) (p i column stripe : ℕ) (cells : List Cell) →
         ((k : ℕ) → k < 512 → get_or contexts.now k 0 ≡ neighbour_context s.orient k) →
-        IsIn s.width i column stripe r → 0 < s.width → IsFlagWord s.width p cells column stripe word →
+        IsIn s.width i column stripe r → 0 < s.width →
+        IsFlagWord s.width p cells column stripe word →
         result ≡ context_at s cells i }
 {
     contexts[neighbours(word, r) as usize]

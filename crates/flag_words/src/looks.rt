@@ -12,7 +12,8 @@ use crate::bits::{has, neighbours};
 pub fn codes_significance(word: u32, r: u32) -> bool
     requires { r < 4 }
     ensures { (s : Shape) (p i column stripe : ℕ) (cells : List Cell) →
-        IsIn s.width i column stripe r → 0 < s.width → IsFlagWord s.width p cells column stripe word →
+        IsIn s.width i column stripe r → 0 < s.width →
+        IsFlagWord s.width p cells column stripe word →
         result ≡ is_coded significance s p i cells }
 {
     let quiet = neighbours(word, r) == 0;
@@ -24,7 +25,8 @@ pub fn codes_significance(word: u32, r: u32) -> bool
 pub fn codes_refinement(word: u32, r: u32) -> bool
     requires { r < 4 }
     ensures { (s : Shape) (p i column stripe : ℕ) (cells : List Cell) →
-        IsIn s.width i column stripe r → 0 < s.width → IsFlagWord s.width p cells column stripe word →
+        IsIn s.width i column stripe r → 0 < s.width →
+        IsFlagWord s.width p cells column stripe word →
         result ≡ is_coded refinement s p i cells }
 {
     !has(word, 21 + 3 * r) & has(word, 4 + 3 * r)
@@ -35,7 +37,8 @@ pub fn codes_refinement(word: u32, r: u32) -> bool
 pub fn codes_cleanup(word: u32, r: u32) -> bool
     requires { r < 4 }
     ensures { (s : Shape) (p i column stripe : ℕ) (cells : List Cell) →
-        IsIn s.width i column stripe r → 0 < s.width → IsFlagWord s.width p cells column stripe word →
+        IsIn s.width i column stripe r → 0 < s.width →
+        IsFlagWord s.width p cells column stripe word →
         result ≡ is_coded cleanup s p i cells }
 {
     !has(word, 21 + 3 * r)
@@ -47,7 +50,8 @@ pub fn refinement_context(word: u32, r: u32) -> u8
     requires { r < 4 }
     ensures few { result < 19 }
     ensures context { (s : Shape) (p i column stripe : ℕ) (cells : List Cell) →
-        IsIn s.width i column stripe r → 0 < s.width → IsFlagWord s.width p cells column stripe word →
+        IsIn s.width i column stripe r → 0 < s.width →
+        IsFlagWord s.width p cells column stripe word →
         is_significant (cell_at cells i) ≡ true → result ≡ refinement_at s cells i }
 {
     let quiet = neighbours(word, r) == 0;

@@ -1,5 +1,6 @@
 // Changes of a place's flags.
-ghost use Rattle.std.specs.Prelude.{◌≡◌, ◌+◌, ◌*◌, ◌<◌, ◌≤◌, ℕ, Bool, false, true, List, length, set};
+ghost use Rattle.std.specs.Prelude.{◌≡◌, ◌+◌, ◌*◌, ◌<◌, ◌≤◌, ℕ, Bool, false, true, List, length};
+ghost use Rattle.std.specs.Prelude.{set};
 ghost use Rattle.ebcot_contexts.specs.Cells.{Cell, cell_at, is_significant, become_significant};
 ghost use Rattle.ebcot_contexts.specs.Passes.{learned};
 ghost use Rattle.flag_words.specs.Words.{AreFlags, IsIn, IsOpen, IsNew, three_at, spread};

@@ -11,14 +11,17 @@ use Rattle.flag_words.proofs.contexts.significance_contexts.Goals as goal
 low_entry : (k : ℕ) → k < 512 → get_or LH_CONTEXTS k 0 ≡ neighbour_context LL k
 unfolding neighbour_context lh_context
 low_entry k l =
-    eqb-true _ _ (agree_below_at (λ (k : ℕ). get_or LH_CONTEXTS k 0 == neighbour_context LL k) (λ (k : ℕ). true) 512 k refl l)
+    eqb-true _ _ (agree_below_at (λ (k : ℕ). get_or LH_CONTEXTS k 0 == neighbour_context LL k)
+    (λ (k : ℕ). true) 512 k refl l)
 
 same_entry : (k : ℕ) → neighbour_context LL k ≡ neighbour_context LH k
 unfolding neighbour_context
 same_entry k = refl
 
-lh_entry : (o : Orient) (k : ℕ) → (o ≡ LL) ⊎ (o ≡ LH) → k < 512 → get_or LH_CONTEXTS k 0 ≡ neighbour_context o k
-lh_entry o k (inl e) l = subst (λ (v : Orient). get_or LH_CONTEXTS k 0 ≡ neighbour_context v k) (sym e) (low_entry k l)
+lh_entry : (o : Orient) (k : ℕ) → (o ≡ LL) ⊎ (o ≡ LH) → k < 512 →
+    get_or LH_CONTEXTS k 0 ≡ neighbour_context o k
+lh_entry o k (inl e) l = subst (λ (v : Orient). get_or LH_CONTEXTS k 0 ≡ neighbour_context v k)
+    (sym e) (low_entry k l)
 lh_entry o k (inr e) l =
     subst (λ (v : Orient). get_or LH_CONTEXTS k 0 ≡ neighbour_context v k) (sym e)
     (subst (λ (n : ℕ). get_or LH_CONTEXTS k 0 ≡ n) (same_entry k) (low_entry k l))
@@ -27,13 +30,15 @@ hl_entry : (o : Orient) (k : ℕ) → o ≡ HL → k < 512 → get_or HL_CONTEXT
 unfolding neighbour_context lh_context
 hl_entry o k e l =
     subst (λ (v : Orient). get_or HL_CONTEXTS k 0 ≡ neighbour_context v k) (sym e)
-    (eqb-true _ _ (agree_below_at (λ (k : ℕ). get_or HL_CONTEXTS k 0 == neighbour_context HL k) (λ (k : ℕ). true) 512 k refl l))
+    (eqb-true _ _ (agree_below_at (λ (k : ℕ). get_or HL_CONTEXTS k 0 == neighbour_context HL k)
+    (λ (k : ℕ). true) 512 k refl l))
 
 hh_entry : (o : Orient) (k : ℕ) → o ≡ HH → k < 512 → get_or HH_CONTEXTS k 0 ≡ neighbour_context o k
 unfolding neighbour_context hh_context
 hh_entry o k e l =
     subst (λ (v : Orient). get_or HH_CONTEXTS k 0 ≡ neighbour_context v k) (sym e)
-    (eqb-true _ _ (agree_below_at (λ (k : ℕ). get_or HH_CONTEXTS k 0 == neighbour_context HH k) (λ (k : ℕ). true) 512 k refl l))
+    (eqb-true _ _ (agree_below_at (λ (k : ℕ). get_or HH_CONTEXTS k 0 == neighbour_context HH k)
+    (λ (k : ℕ). true) 512 k refl l))
 
 pub returns-in-LL : goal.returns-in-LL
 returns-in-LL c = λ k l. lh_entry c.args.orient k c.in-LL.is l

@@ -17,4 +17,5 @@ pub returns-clause-context : goal.returns-clause-context
 returns-clause-context c = λ s p i column stripe cells at some is significant.
     c.refinement.ensures
     ∙ (λ j. refinement_context (not (c.has.ensures j)) (not (eqb (c.neighbours-quiet.ensures j) 0)))
-    ∙ context_test s p i column stripe c.args.r cells c.args.word c.requires at some is (ltb-true 0 (cell_at cells i).magnitude significant)
+    ∙ context_test s p i column stripe c.args.r cells c.args.word c.requires at some is
+    (ltb-true 0 (cell_at cells i).magnitude significant)

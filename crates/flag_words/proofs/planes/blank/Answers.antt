@@ -1,4 +1,5 @@
-use Rattle.std.proofs.Common.{ℕ, ◌-◌, ◌≡◌, ◌<◌, inl, inr, length, get_or, set, refl, sym, ap, ◌∙◌, arith, subst}
+use Rattle.std.proofs.Common.{ℕ, ◌-◌, ◌≡◌, ◌<◌, inl, inr, length, get_or, set, refl, sym, ap, ◌∙◌}
+use Rattle.std.proofs.Common.{arith, subst}
 use Rattle.std.proofs.lemmas.Bool.{cases_eq}
 use Rattle.std.proofs.lemmas.List.{get_or-set_same, get_or-set_other, length-set, length-replicate}
 use Rattle.ebcot_contexts.specs.Contexts.{Shape}
@@ -16,9 +17,12 @@ loop-n-preserved c = (
   length-set c.loop-n.words c.loop-n.n _ ∙ c.loop-n.invariant.0,
   λ j l. elim (cases_eq j c.loop-n.n) [
     | inl e ↦
-        subst (λ (v : ℕ). get_or (set c.loop-n.words c.loop-n.n c.blank_word.result) v 0 ≡ blank_of c.args.width c.args.height v) (sym e)
-        (get_or-set_same c.loop-n.words c.loop-n.n c.blank_word.result 0 (omega (arith, c.loop-n.invariant.0)) ∙ c.blank_word.ensures)
-    | inr e ↦ get_or-set_other c.loop-n.words c.loop-n.n j c.blank_word.result 0 e ∙ c.loop-n.invariant.1 j (omega arith)
+        subst (λ (v : ℕ). get_or (set c.loop-n.words c.loop-n.n c.blank_word.result) v 0
+        ≡ blank_of c.args.width c.args.height v) (sym e)
+        (get_or-set_same c.loop-n.words c.loop-n.n c.blank_word.result 0
+        (omega (arith, c.loop-n.invariant.0)) ∙ c.blank_word.ensures)
+    | inr e ↦ get_or-set_other c.loop-n.words c.loop-n.n j c.blank_word.result 0 e
+        ∙ c.loop-n.invariant.1 j (omega arith)
   ],
 )
 

@@ -6,5 +6,6 @@ use Rattle.flag_words.proofs.planes.next_plane.Given as goal
 abbrev pub invariant-loop-n : goal.invariant-loop-n
 invariant-loop-n l =
     (length l.words ≡ 340)
-    × ((j : ℕ) → j < l.n → get_or l.words j 0 ≡ next_of (get_or l.initial.words j 0) (get_or l.blank j 0))
+    × ((j : ℕ) → j < l.n → get_or l.words j 0
+    ≡ next_of (get_or l.initial.words j 0) (get_or l.blank j 0))
     × ((j : ℕ) → l.n ≤ j → get_or l.words j 0 ≡ get_or l.initial.words j 0)

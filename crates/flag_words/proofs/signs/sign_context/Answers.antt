@@ -1,4 +1,5 @@
-use Rattle.std.proofs.Common.{ℕ, zero, suc, ◌<◌, ◌≡◌, Bool, true, nat_lt, List, [], ◌∷◌, leb, get_or, refl, ap, ◌∙◌}
+use Rattle.std.proofs.Common.{ℕ, zero, suc, ◌<◌, ◌≡◌, Bool, true, nat_lt, List, [], ◌∷◌, leb}
+use Rattle.std.proofs.Common.{get_or, refl, ap, ◌∙◌}
 use Rattle.std.specs.List.{list_all}
 use Rattle.std.proofs.lemmas.Bool.{and_parts, ltb-true}
 use Rattle.std.specs.Prelude.{bit_and}
@@ -28,5 +29,9 @@ returns-clause-few c = few_at c.sign_index.result
 
 pub returns-clause-context : goal.returns-clause-context
 returns-clause-context c = λ s p i column stripe cells at some is_left is is_right.
-    ap (λ (n : ℕ). (bit_and (get_or SIGN_CONTEXTS n 0) 127, leb 128 (get_or SIGN_CONTEXTS n 0))) c.sign_index.ensures
+    ap (λ (n : ℕ). (
+      bit_and (get_or SIGN_CONTEXTS n 0) 127,
+      leb 128
+          (get_or SIGN_CONTEXTS n 0),
+    )) c.sign_index.ensures
     ∙ sign_by s p i column stripe c.args.r cells c.args.left c.args.word c.args.right c.requires at some is_left is is_right

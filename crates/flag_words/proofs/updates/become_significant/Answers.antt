@@ -11,4 +11,5 @@ as_number false m e = e
 pub returns : goal.returns
 returns c = λ w p i column stripe cells o blank a.
     new_place w p i column stripe c.args.r c.args.n cells c.args.words.now c.spread_around.new.words c.args.word c.from-minus.result c.args.negative
-    c.requires.row o blank (as_number c.args.negative c.from-minus.result c.from-minus.ensures) c.spread_around.ensures a
+    c.requires.row o blank
+    (as_number c.args.negative c.from-minus.result c.from-minus.ensures) c.spread_around.ensures a
