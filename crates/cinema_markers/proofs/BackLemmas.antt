@@ -1,6 +1,8 @@
 -- A header to whose segments no row applies is spelled by what is read at their places.
-use Rattle.std.proofs.Common.{◌≡◌, ◌⊎◌, inl, inr, ℕ, zero, suc, ◌+◌, ◌-◌, ◌*◌, ◌^◌, ◌<◌, ◌≤◌, Bool, true}
-use Rattle.std.proofs.Common.{false, not, ◌==◌, ◌&&◌, ◌||◌, is_some, None, List, ◌∷◌, ◌++◌, map, take, drop, length}
+use Rattle.std.proofs.Common.{◌≡◌, ◌⊎◌, inl, inr, ℕ, zero, suc, ◌+◌, ◌-◌, ◌*◌, ◌^◌, ◌<◌, ◌≤◌, Bool}
+use Rattle.std.proofs.Common.{true}
+use Rattle.std.proofs.Common.{false, not, ◌==◌, ◌&&◌, ◌||◌, is_some, None, List, ◌∷◌, ◌++◌, map}
+use Rattle.std.proofs.Common.{take, drop, length}
 use Rattle.std.proofs.Common.{Some, arith, ◌∙◌, sym, ap, refl, subst}
 use Rattle.std.proofs.Common.{length-drop, if◌then◌else◌}
 use Rattle.std.specs.Prelude.{slice_index}
@@ -31,11 +33,14 @@ use Rattle.cinema_markers.proofs.FieldLaws.{AreBytes, at_are_spelled}
 use Rattle.cinema_markers.proofs.SegmentLaws.{none_apply, same, cod_is_read}
 use Rattle.cinema_markers.proofs.Spelled.{step_widths, entry_widths, same_widths}
 use Rattle.cinema_markers.proofs.Standing.{keeps_cod, keeps_qcd, keeps_poc, keeps_tlm}
-use Rattle.cinema_markers.proofs.ReadBack.{qcd_is_read, change_told, poc_is_read, com_is_read}
+use Rattle.cinema_markers.proofs.ReadBack.{qcd_is_read, change_is, poc_is_read, com_is_read}
 use Rattle.cinema_markers.proofs.ReadBack.{tlm_is_read, lengths_at}
-use Rattle.cinema_markers.proofs.FoundLemmas.{PassedAs, passed_as, siz_is_found, IsKept, earlier_kept}
-use Rattle.cinema_markers.proofs.FoundLemmas.{here_kept, kind_cod, kind_qcd, kind_poc, kind_tlm, StandsAt}
-use Rattle.cinema_markers.proofs.EndLemmas.{profile_of, cod_here, qcd_here, poc_here, tlm_here, AtEnd}
+use Rattle.cinema_markers.proofs.FoundLemmas.{PassedAs, passed_as, siz_is_found, IsKept}
+use Rattle.cinema_markers.proofs.FoundLemmas.{earlier_kept}
+use Rattle.cinema_markers.proofs.FoundLemmas.{here_kept, kind_cod, kind_qcd, kind_poc, kind_tlm}
+use Rattle.cinema_markers.proofs.FoundLemmas.{StandsAt}
+use Rattle.cinema_markers.proofs.EndLemmas.{profile_of, cod_here, qcd_here, poc_here, tlm_here}
+use Rattle.cinema_markers.proofs.EndLemmas.{AtEnd}
 
 -- the words of the segment at a place
 abbrev pub segment_with : List ℕ → ℕ → ℕ → MainSegment
@@ -67,11 +72,13 @@ kind_of bytes at next before to (stands, passed) =
         (n == 0xFF51 && is_some (found_in bytes (next ∷ before)).siz) ≡ false → n ≡ 0xFF51 → ⊥
     no_siz n found twice is =
         let test : (n == 0xFF51 && is_some (found_in bytes (next ∷ before)).siz) ≡ true =
-        ap (λ k. k == 0xFF51 && is_some (found_in bytes (next ∷ before)).siz) is ∙ ap is_some found in
+        ap (λ k. k == 0xFF51 && is_some (found_in bytes (next ∷ before)).siz) is
+        ∙ ap is_some found in
         cc
 
 -- Fields that are read spell the bytes up to the end of their segment.
-fields_back : (bytes : List ℕ) (at to : ℕ) (fields : List Field) → AreBytes bytes → AreAt bytes at 0 fields →
+fields_back : (bytes : List ℕ) (at to : ℕ) (fields : List Field) → AreBytes bytes →
+    AreAt bytes at 0 fields →
     to ≡ at + widths fields → to ≤ length bytes → drop at bytes ≡ segment fields ++ drop to bytes
 fields_back bytes at to fields small are end inside =
     let start : at ≡ at + 0 = omega arith in
@@ -96,10 +103,14 @@ pub earlier_all : (bytes : List ℕ) (found : Found) (at : ℕ) (before : List �
     StandsUpTo bytes (at ∷ before) to → AreKept found (found_in bytes (at ∷ before)) →
     AreKept found (found_in bytes before)
 earlier_all bytes found at before to (stands, passed) kept = record {
-  cod = earlier_kept (λ f. f.cod) 0xFF52 (kind_cod keeps_cod) bytes found at before to passed kept.cod;
-  qcd = earlier_kept (λ f. f.qcd) 0xFF5C (kind_qcd keeps_qcd) bytes found at before to passed kept.qcd;
-  poc = earlier_kept (λ f. f.poc) 0xFF5F (kind_poc keeps_poc) bytes found at before to passed kept.poc;
-  tlm = earlier_kept (λ f. f.tlm) 0xFF55 (kind_tlm keeps_tlm) bytes found at before to passed kept.tlm;
+  cod = earlier_kept (λ f. f.cod) 0xFF52
+      (kind_cod keeps_cod) bytes found at before to passed kept.cod;
+  qcd = earlier_kept (λ f. f.qcd) 0xFF5C
+      (kind_qcd keeps_qcd) bytes found at before to passed kept.qcd;
+  poc = earlier_kept (λ f. f.poc) 0xFF5F
+      (kind_poc keeps_poc) bytes found at before to passed kept.poc;
+  tlm = earlier_kept (λ f. f.tlm) 0xFF55
+      (kind_tlm keeps_tlm) bytes found at before to passed kept.tlm;
 }
 
 -- a header's segment is spelled at a place, up to another one
@@ -122,7 +133,8 @@ cod_back bytes found end at to known s p is =
     let long : word_at bytes (at + 2) ≡ 13 + levels = are.1.0 in
     let to_is = p.to_is in
     let back : drop at bytes ≡ segment (cod levels flag) ++ drop to bytes =
-    fields_back bytes at to (cod levels flag) known.small are (omega (arith, cod_widths levels flag)) p.inside in
+    fields_back bytes at to (cod levels flag) known.small are
+    (omega (arith, cod_widths levels flag)) p.inside in
     record {
       spelled = back ∙ ap (λ o. segment (cod (slice_index bytes (unwrap_or o 0 + 9))
           (slice_index bytes (unwrap_or o 0 + 8))) ++ drop to bytes) (sym is);
@@ -134,7 +146,8 @@ step_widths_of : (bytes : List ℕ) (at count : ℕ) →
     widths (map step_field (steps_at bytes at count).bands.items) ≡ 2 * count
 step_widths_of bytes at count =
     step_widths (steps_at bytes at count).bands.items
-    ∙ ap (λ n. 2 * n) (length-map (range_with_len 0 count) (band_step bytes at) ∙ length-range_with_len 0 count)
+    ∙ ap (λ n. 2 * n) (length-map (range_with_len 0 count) (band_step bytes at)
+    ∙ length-range_with_len 0 count)
 
 qcd_back : (bytes : List ℕ) (found : Found) (end at to : ℕ) → Known bytes found →
     (s : StandsAt bytes 0xFF5C at) → PassedAs bytes (found_in bytes s.before) at to →
@@ -150,13 +163,15 @@ qcd_back bytes found end at to known s p is =
     fields_back bytes at to (qcd levels (steps_at bytes at count)) known.small are
     (omega (arith, step_widths_of bytes at count)) p.inside in
     record {
-      spelled = back ∙ ap (λ o. segment (qcd levels (steps_at bytes (unwrap_or o 0) count)) ++ drop to bytes)
+      spelled = back ∙ ap (λ o. segment (qcd levels (steps_at bytes (unwrap_or o 0) count))
+          ++ drop to bytes)
           (sym is);
       fits = tt;
     }
 
 -- POC
-is_four : (p : Profile) (n : ℕ) → n ≡ 0xFF5F → (n == 0xFF5F && not (is_four_k p)) ≡ false → is_four_k p ≡ true
+is_four : (p : Profile) (n : ℕ) → n ≡ 0xFF5F → (n == 0xFF5F && not (is_four_k p)) ≡ false →
+    is_four_k p ≡ true
 is_four TwoK n is none = absurd (let e = ap (λ k. k == 0xFF5F && true) is in cc)
 is_four FourK n is none = refl
 
@@ -168,14 +183,17 @@ unfolding change_rows poc_rows
 poc_back bytes found end at to known s p siz is =
     let levels = slice_index bytes (unwrap_or found.cod 0 + 9) in
     let four = is_four (profile_of bytes) (word_at bytes at) s.is
-    (ap (λ o. word_at bytes at == 0xFF5F && not (is_four_k (profile_at bytes o))) (sym siz) ∙ p.profile) in
+    (ap (λ o. word_at bytes at == 0xFF5F && not (is_four_k (profile_at bytes o))) (sym siz)
+    ∙ p.profile) in
     let changes : first_fault (change_rows bytes levels at) ≡ None =
-    ap (λ o. first_fault (change_rows bytes levels (unwrap_or o 0))) (sym is) ∙ known.end.changes four in
+    ap (λ o. first_fault (change_rows bytes levels (unwrap_or o 0))) (sym is)
+    ∙ known.end.changes four in
     let r = none_apply (change_rows bytes levels at) changes in
-    let long : word_at bytes (at + 2) ≡ 16 = same (none_apply (poc_rows bytes at) (poc_here bytes at s)).0 in
+    let long : word_at bytes (at + 2) ≡ 16 =
+    same (none_apply (poc_rows bytes at) (poc_here bytes at s)).0 in
     let are = poc_is_read bytes at levels s.is long
-    (change_told bytes (at + 4) 0 levels (not_not (is_change bytes (at + 4) 0 levels) r.0))
-    (change_told bytes (at + 11) levels (levels + 1)
+    (change_is bytes (at + 4) 0 levels (not_not (is_change bytes (at + 4) 0 levels) r.0))
+    (change_is bytes (at + 11) levels (levels + 1)
     (not_not (is_change bytes (at + 11) levels (levels + 1)) r.1.0)) in
     let to_is = p.to_is in
     record {
@@ -230,7 +248,8 @@ tlm_back bytes found end at to known s p is =
     fields_back bytes at to (tlm_with parts ztlm stlm) known.small are
     (omega (arith, entry_widths b c parts)) p.inside in
     let same_parts : lengths_at bytes at count
-    ≡ map (part_length bytes (unwrap_or found.tlm 0)) (range_with_len 0 (parts_of (profile_at bytes found.siz))) =
+    ≡ map (part_length bytes (unwrap_or found.tlm 0))
+    (range_with_len 0 (parts_of (profile_at bytes found.siz))) =
     ap (λ o. map (part_length bytes (unwrap_or o 0)) (range_with_len 0 count)) (sym is)
     ∙ ap (λ o. map (part_length bytes (unwrap_or found.tlm 0))
     (range_with_len 0 (parts_of (profile_at bytes o)))) (sym known.end.siz) in
@@ -247,7 +266,8 @@ tlm_back bytes found end at to known s p is =
     }
 
 -- COM
-com_back : (bytes : List ℕ) (m : MainHeader) (at to : ℕ) → AreBytes bytes → (s : StandsAt bytes 0xFF64 at) →
+com_back : (bytes : List ℕ) (m : MainHeader) (at to : ℕ) → AreBytes bytes →
+    (s : StandsAt bytes 0xFF64 at) →
     PassedAs bytes (found_in bytes s.before) at to →
     IsBack m bytes at to (comment (take (word_at bytes (at + 2) - 2) (drop (at + 4) bytes)))
 com_back bytes m at to small s p =
@@ -256,11 +276,13 @@ com_back bytes m at to small s p =
     let to_is = p.to_is in
     let inside = p.inside in
     let some = p.some in
-    let left : length (drop (at + 4) bytes) ≡ length bytes - (at + 4) = length-drop (at + 4) bytes in
+    let left : length (drop (at + 4) bytes) ≡ length bytes - (at + 4) =
+    length-drop (at + 4) bytes in
     let many : length content ≡ n = length-take-le n (drop (at + 4) bytes) (omega arith) in
     let back = com_is_read bytes at small s.is some (omega arith) in
     record {
-      spelled = back ∙ ap (λ k. (segment (com_head content) ++ content) ++ drop k bytes) (sym to_is);
+      spelled = back ∙ ap (λ k. (segment (com_head content) ++ content) ++ drop k bytes)
+          (sym to_is);
       fits = omega (arith, small (at + 2), small (at + 2 + 1));
     }
 
@@ -282,21 +304,28 @@ segment_back bytes found end at next before to known stands kept =
         IsBack (main_at bytes found end).main bytes at to (segment_with bytes at marker) →
         IsBack (main_at bytes found end).main bytes at to (word_of bytes at)
     turn marker is back =
-        subst (λ n. IsBack (main_at bytes found end).main bytes at to (segment_with bytes at n)) (sym is) back
+        subst (λ n. IsBack (main_at bytes found end).main bytes at to (segment_with bytes at n))
+        (sym is) back
 
-    by_kind : IsKind (word_at bytes at) → IsBack (main_at bytes found end).main bytes at to (word_of bytes at)
+    by_kind : IsKind (word_at bytes at) →
+        IsBack (main_at bytes found end).main bytes at to (word_of bytes at)
     by_kind (inl is) =
         turn 0xFF52 is (cod_back bytes found end at to known (there 0xFF52 is) passed
-        (here_kept (λ f. f.cod) 0xFF52 (kind_cod keeps_cod) bytes found at (next ∷ before) is kept.cod))
+        (here_kept (λ f. f.cod) 0xFF52 (kind_cod keeps_cod) bytes found at
+        (next ∷ before) is kept.cod))
     by_kind (inr (inl is)) =
         turn 0xFF5C is (qcd_back bytes found end at to known (there 0xFF5C is) passed
-        (here_kept (λ f. f.qcd) 0xFF5C (kind_qcd keeps_qcd) bytes found at (next ∷ before) is kept.qcd))
+        (here_kept (λ f. f.qcd) 0xFF5C (kind_qcd keeps_qcd) bytes found at
+        (next ∷ before) is kept.qcd))
     by_kind (inr (inr (inl is))) =
         turn 0xFF5F is (poc_back bytes found end at to known (there 0xFF5F is) passed
         (siz_is_found bytes next before at stands.0)
-        (here_kept (λ f. f.poc) 0xFF5F (kind_poc keeps_poc) bytes found at (next ∷ before) is kept.poc))
+        (here_kept (λ f. f.poc) 0xFF5F (kind_poc keeps_poc) bytes found at
+        (next ∷ before) is kept.poc))
     by_kind (inr (inr (inr (inl is)))) =
         turn 0xFF55 is (tlm_back bytes found end at to known (there 0xFF55 is) passed
-        (here_kept (λ f. f.tlm) 0xFF55 (kind_tlm keeps_tlm) bytes found at (next ∷ before) is kept.tlm))
+        (here_kept (λ f. f.tlm) 0xFF55 (kind_tlm keeps_tlm) bytes found at
+        (next ∷ before) is kept.tlm))
     by_kind (inr (inr (inr (inr is)))) =
-        turn 0xFF64 is (com_back bytes (main_at bytes found end).main at to known.small (there 0xFF64 is) passed)
+        turn 0xFF64 is (com_back bytes (main_at bytes found end).main at to known.small
+        (there 0xFF64 is) passed)

@@ -1,7 +1,9 @@
--- Bytes to which no row applies up to SOT begin with a main header: what is read at the places of its
--- segments, in the words that are read there.
-use Rattle.std.proofs.Common.{◌≡◌, ◌⊎◌, inl, inr, ℕ, zero, suc, ◌+◌, ◌-◌, ◌*◌, ◌/◌, ◌<◌, ◌≤◌, Bool, true}
-use Rattle.std.proofs.Common.{false, not, ◌==◌, ◌&&◌, List, [], ◌∷◌, ◌++◌, map, drop, length, Option, Some}
+-- Bytes to which no row applies up to SOT begin with a main header: what is read at the places of
+-- its segments, in the words that are read there.
+use Rattle.std.proofs.Common.{◌≡◌, ◌⊎◌, inl, inr, ℕ, zero, suc, ◌+◌, ◌-◌, ◌*◌, ◌/◌, ◌<◌, ◌≤◌, Bool}
+use Rattle.std.proofs.Common.{true}
+use Rattle.std.proofs.Common.{false, not, ◌==◌, ◌&&◌, List, [], ◌∷◌, ◌++◌, map, drop, length}
+use Rattle.std.proofs.Common.{Option, Some}
 use Rattle.std.proofs.Common.{None, is_some, arith, ◌∙◌, sym, ap, refl, subst, append_assoc}
 use Rattle.std.proofs.Common.{length-append, length-drop, if◌then◌else◌}
 use Rattle.std.specs.Prelude.{slice_index}
@@ -26,7 +28,8 @@ use Rattle.cinema_markers.specs.Reading.{found_in, StandsUpTo, EndsAt}
 use Rattle.cinema_markers.specs.Value.{band_step, part_length, part_place, main_at}
 use Rattle.cinema_markers.specs.Words.{MainSegment, MainWords}
 use Rattle.cinema_markers.specs.Words.{siz_with, spelled_segment, spelled_upto}
-use Rattle.cinema_markers.specs.Words.{main_words, places_upto, marker_of, count_of, IsSpelled, IsStep}
+use Rattle.cinema_markers.specs.Words.{main_words, places_upto, marker_of, count_of, IsSpelled}
+use Rattle.cinema_markers.specs.Words.{IsStep}
 use Rattle.cinema_markers.specs.Words.{MainFits, HasMain}
 use Rattle.cinema_markers.specs.declared.fields.Field.TheVariants.{Short}
 use Rattle.cinema_markers.specs.declared.found.Found.{Found}
@@ -56,7 +59,8 @@ marker_is : (bytes : List ℕ) (at next : ℕ) (before : List ℕ) (to : ℕ) �
     StandsUpTo bytes (at ∷ next ∷ before) to → marker_of (word_of bytes at) ≡ word_at bytes at
 marker_is bytes at next before to stands = by_kind (kind_of bytes at next before to stands)
   where
-    turn : (marker : ℕ) → word_at bytes at ≡ marker → marker_of (segment_with bytes at marker) ≡ marker →
+    turn : (marker : ℕ) → word_at bytes at ≡ marker →
+        marker_of (segment_with bytes at marker) ≡ marker →
         marker_of (word_of bytes at) ≡ word_at bytes at
     turn marker is same = ap (λ n. marker_of (segment_with bytes at n)) is ∙ same ∙ sym is
 
@@ -70,7 +74,8 @@ marker_is bytes at next before to stands = by_kind (kind_of bytes at next before
 one_or_none : Option ℕ → ℕ
 one_or_none o = if is_some o then 1 else 0
 
-counted_step : (t : Bool) (n at : ℕ) (o : Option ℕ) → n ≡ (if is_some o then 1 else 0) → (t && is_some o) ≡ false →
+counted_step : (t : Bool) (n at : ℕ) (o : Option ℕ) → n ≡ (if is_some o then 1 else 0) →
+    (t && is_some o) ≡ false →
     (if t then 1 + n else n) ≡ (if is_some (if t then Some at else o) then 1 else 0)
 counted_step true n at o is once = ap (λ k. 1 + k) (is ∙ ap (λ b. if b then 1 else 0) once)
 counted_step false n at o is once = is
@@ -84,7 +89,8 @@ counted pick marker kind bytes at [] to stands =
     let none : pick (found_in bytes (at ∷ [])) ≡ None =
     kind.keeps.step (found_in bytes []) (word_at bytes at) at
     ∙ ap (λ n. if n == marker then Some at else pick (found_in bytes [])) siz
-    ∙ ap (λ b. if b then Some at else pick (found_in bytes [])) kind.keeps.not_siz ∙ kind.keeps.none in
+    ∙ ap (λ b. if b then Some at else pick (found_in bytes [])) kind.keeps.not_siz
+    ∙ kind.keeps.none in
     ap (λ o. if is_some o then 1 else 0) (sym none)
 counted pick marker kind bytes at (next ∷ before) to (stands, passed) =
     let found = found_in bytes (next ∷ before) in
@@ -96,7 +102,8 @@ counted pick marker kind bytes at (next ∷ before) to (stands, passed) =
     (counted pick marker kind bytes next before at stands) once
     ∙ ap (λ o. if is_some o then 1 else 0) (sym (kind.keeps.step found (word_at bytes at) at))
 
-one_of_kind : (n place : ℕ) (o : Option ℕ) → n ≡ (if is_some o then 1 else 0) → o ≡ Some place → n ≡ 1
+one_of_kind : (n place : ℕ) (o : Option ℕ) → n ≡ (if is_some o then 1 else 0) → o ≡ Some place →
+    n ≡ 1
 one_of_kind n place o is there = is ∙ ap (λ p. if is_some p then 1 else 0) there
 
 -- POC is found in headers of the 4K profile alone.
@@ -110,7 +117,8 @@ no_poc bytes at (next ∷ before) to (stands, passed) two =
     let siz = siz_is_found bytes next before at stands in
     let other : (word_at bytes at == 0xFF5F) ≡ false =
     by_test (word_at bytes at == 0xFF5F)
-    (ap (λ o. word_at bytes at == 0xFF5F && not (is_four_k (profile_at bytes o))) (sym siz) ∙ p.profile) in
+    (ap (λ o. word_at bytes at == 0xFF5F && not (is_four_k (profile_at bytes o))) (sym siz)
+    ∙ p.profile) in
     ap (λ b. if b then Some at else found.poc) other ∙ no_poc bytes next before at stands two
   where
     by_test : (t : Bool) → (t && not (is_four_k (profile_of bytes))) ≡ false → t ≡ false
@@ -119,7 +127,8 @@ no_poc bytes at (next ∷ before) to (stands, passed) two =
 
 -- Bytes up to the end of the segments.
 
-pub record AreBack (m : MainHeader) (words : MainWords) (bytes before : List ℕ) (to : ℕ) : Type 0 where
+pub record AreBack (m : MainHeader) (words : MainWords) (bytes before : List ℕ)
+    (to : ℕ) : Type 0 where
   pub spelled : bytes ≡ spelled_upto m words (words_of (word_of bytes) before) ++ drop to bytes
   pub fits : AllByRecursion (IsSpelled m.parts.items) (words_of (word_of bytes) before)
   pub places : (place : ℕ) → (found_in bytes before).tlm ≡ Some place →
@@ -144,23 +153,28 @@ siz_back bytes all found end at to known stands =
     let first = first_is_siz bytes at to stands in
     let p = passed_as bytes (found_in bytes []) at to stands.1 in
     let is = known.end.siz in
-    let siz = siz_with (profile_with (word_at bytes (2 + 4))) (long_at bytes (2 + 6)) (long_at bytes (2 + 10))
+    let siz = siz_with (profile_with (word_at bytes (2 + 4))) (long_at bytes (2 + 6))
+    (long_at bytes (2 + 10))
     (long_at bytes (2 + 22)) (long_at bytes (2 + 26)) in
     let are = siz_is_read bytes 2 s.is s.fields in
     let long : word_at bytes (2 + 2) ≡ 47 = same (none_apply (siz_rows bytes 2) s.fields).0 in
-    let to_is : to ≡ 51 = p.to_is ∙ ap (λ n. n + 2 + word_at bytes (n + 2)) first.0 ∙ ap (λ n. 4 + n) long in
+    let to_is : to ≡ 51 = p.to_is ∙ ap (λ n. n + 2 + word_at bytes (n + 2)) first.0
+    ∙ ap (λ n. 4 + n) long in
     let inside : 51 ≤ length bytes = let i = p.inside in omega arith in
     let here : drop 2 bytes ≡ segment siz ++ drop to bytes =
-    at_are_spelled bytes 2 0 siz known.small are inside ∙ ap (λ k. segment siz ++ drop k bytes) (sym to_is) in
+    at_are_spelled bytes 2 0 siz known.small are inside
+    ∙ ap (λ k. segment siz ++ drop k bytes) (sym to_is) in
     let whole : bytes ≡ segment soc ++ (segment siz ++ drop to bytes) =
     soc_back bytes known.small stands.0.0 ∙ ap (λ t. segment soc ++ t) here in
     whole
-    ∙ ap (λ o. segment soc ++ (segment (siz_with (profile_at bytes o) (long_at bytes (unwrap_or o 0 + 6))
+    ∙ ap (λ o. segment soc ++ (segment
+    (siz_with (profile_at bytes o) (long_at bytes (unwrap_or o 0 + 6))
     (long_at bytes (unwrap_or o 0 + 10)) (long_at bytes (2 + 22)) (long_at bytes (2 + 26)))
     ++ drop to bytes)) (sym is)
 
 -- a segment more
-place_is : (bytes front : List ℕ) (at : ℕ) → at ≤ length bytes → bytes ≡ front ++ drop at bytes → length front ≡ at
+place_is : (bytes front : List ℕ) (at : ℕ) → at ≤ length bytes → bytes ≡ front ++ drop at bytes →
+    length front ≡ at
 place_is bytes front at inside is =
     let whole : length bytes ≡ length front + length (drop at bytes) =
     ap length is ∙ length-append front (drop at bytes) in
@@ -170,7 +184,8 @@ place_is bytes front at inside is =
 -- the places of the lengths, in words whose last segment is this one
 abbrev ArePlaces : MainHeader → MainWords → List ℕ → ℕ → List MainSegment → MainSegment → Type 0
 ArePlaces m words bytes place rest s =
-    places_upto m words (s ∷ rest) ≡ map (part_place bytes place) (range_with_len 0 (length m.parts.items))
+    places_upto m words (s ∷ rest)
+    ≡ map (part_place bytes place) (range_with_len 0 (length m.parts.items))
 
 places_more : (m : MainHeader) (words : MainWords) (bytes : List ℕ) (at next : ℕ) (before : List ℕ)
     (to place : ℕ) → StandsUpTo bytes (at ∷ next ∷ before) to →
@@ -184,7 +199,8 @@ places_more m words bytes at next before to place stands here later is =
     by_kind (kind_of bytes at next before to stands)
   where
     turn : (marker : ℕ) → word_at bytes at ≡ marker →
-        ArePlaces m words bytes place (words_of (word_of bytes) (next ∷ before)) (segment_with bytes at marker) →
+        ArePlaces m words bytes place (words_of (word_of bytes) (next ∷ before))
+        (segment_with bytes at marker) →
         ArePlaces m words bytes place (words_of (word_of bytes) (next ∷ before)) (word_of bytes at)
     turn marker e there =
         subst (λ n. ArePlaces m words bytes place (words_of (word_of bytes) (next ∷ before))
@@ -205,7 +221,8 @@ places_more m words bytes at next before to place stands here later is =
     by_kind (inr (inr (inl e))) = turn 0xFF5F e (later (step 0xFF5F e))
     by_kind (inr (inr (inr (inl e)))) =
         turn 0xFF55 e
-        (ap (λ p. map (λ i. entry_place p (slice_index bytes (at + 5)) i + index_size (slice_index bytes (at + 5)))
+        (ap (λ p. map (λ i. entry_place p (slice_index bytes (at + 5)) i + index_size
+        (slice_index bytes (at + 5)))
         (range_with_len 0 (length m.parts.items))) here
         ∙ ap (λ p. map (part_place bytes p) (range_with_len 0 (length m.parts.items)))
         (unwrapped (step 0xFF55 e)))
@@ -214,12 +231,14 @@ places_more m words bytes at next before to place stands here later is =
 no_tlm : (bytes : List ℕ) (at place : ℕ) → word_at bytes at ≡ 0xFF51 →
     (found_in bytes (at ∷ [])).tlm ≡ Some place → ⊥
 no_tlm bytes at place siz is =
-    let none : (found_in bytes (at ∷ [])).tlm ≡ None = ap (λ n. if n == 0xFF55 then Some at else None) siz in
+    let none : (found_in bytes (at ∷ [])).tlm ≡ None =
+    ap (λ n. if n == 0xFF55 then Some at else None) siz in
     cc
 
 -- all segments, in any words with these sides
 
-are_back : (bytes all : List ℕ) (found : Found) (end at : ℕ) (before : List ℕ) (to : ℕ) → Known bytes found →
+are_back : (bytes all : List ℕ) (found : Found) (end at : ℕ) (before : List ℕ) (to : ℕ) →
+    Known bytes found →
     StandsUpTo bytes (at ∷ before) to → AreKept found (found_in bytes (at ∷ before)) →
     AreBack (main_at bytes found end).main (words_at bytes all) bytes (at ∷ before) to
 are_back bytes all found end at [] to known stands kept = record {
@@ -275,7 +294,8 @@ siz_fits bytes s =
     some n is = grind (arith, nat_tests)
 
 short_long : (bytes : List ℕ) (at : ℕ) → AreBytes bytes → long_at bytes at < 4294967296
-short_long bytes at small = omega (arith, small at, small (at + 1), small (at + 2), small (at + 2 + 1))
+short_long bytes at small = omega
+    (arith, small at, small (at + 1), small (at + 2), small (at + 2 + 1))
 
 small_word : (bytes : List ℕ) (at : ℕ) → AreBytes bytes → word_at bytes at < 65536
 small_word bytes at small = omega (arith, small at, small (at + 1))
@@ -297,7 +317,8 @@ four_or_two : (b : Bool) → (b ≡ true) ⊎ (b ≡ false)
 four_or_two true = inl refl
 four_or_two false = inr refl
 
-progressions : (bytes : List ℕ) (found : Found) (last : ℕ) (before : List ℕ) (at n : ℕ) → AtEnd bytes found →
+progressions : (bytes : List ℕ) (found : Found) (last : ℕ) (before : List ℕ) (at n : ℕ) →
+    AtEnd bytes found →
     StandsUpTo bytes (last ∷ before) at → found ≡ found_in bytes (last ∷ before) →
     n ≡ (if is_some (found_in bytes (last ∷ before)).poc then 1 else 0) →
     n ≡ (if is_four_k (profile_of bytes) then 1 else 0)
@@ -314,7 +335,8 @@ progressions bytes found last before at n known stands found_is count =
         count ∙ ap (λ o. if is_some o then 1 else 0) (no_poc bytes last before at stands two)
         ∙ ap (λ b. if b then 1 else 0) (sym two)
 
-main_fits : (bytes : List ℕ) (found : Found) (at : ℕ) → EndsAt bytes found at → (known : Known bytes found) →
+main_fits : (bytes : List ℕ) (found : Found) (at : ℕ) → EndsAt bytes found at →
+    (known : Known bytes found) →
     (h : HasSegments bytes found at) →
     AllByRecursion (IsSpelled (main_at bytes found at).main.parts.items)
     (words_of (word_of bytes) (h.last ∷ h.before)) →
@@ -371,7 +393,8 @@ main_fits bytes found at ends known h each =
     }
 
 -- SOT stands where the segments end
-sot_back : (bytes : List ℕ) (at : ℕ) → AreBytes bytes → word_at bytes at ≡ 0xFF90 → at + 2 ≤ length bytes →
+sot_back : (bytes : List ℕ) (at : ℕ) → AreBytes bytes → word_at bytes at ≡ 0xFF90 →
+    at + 2 ≤ length bytes →
     drop at bytes ≡ 0xFF ∷ 0x90 ∷ drop (at + 2) bytes
 sot_back bytes at small is inside =
     let start : at ≡ at + 0 = omega arith in
@@ -403,7 +426,8 @@ end_has bytes found at small ends =
     let both = none_of_both (marker_rows bytes found at)
     (if word_at bytes at == 0xFF90 then end_rows bytes found at
     else room_rows bytes at ++ field_rows (profile_at bytes found.siz) bytes at) ends.end.none in
-    let inside : at + 2 ≤ length bytes = not_below (none_apply (marker_rows bytes found at) both.0).0 in
+    let inside : at + 2 ≤ length bytes =
+    not_below (none_apply (marker_rows bytes found at) both.0).0 in
     let there : (found_in bytes segments).tlm ≡ Some (unwrap_or found.tlm 0) =
     ap (λ f. f.tlm) (sym h.found_is) ∙ known.end.tlm in
     let count : length m.parts.items ≡ parts_of (profile_at bytes found.siz) =

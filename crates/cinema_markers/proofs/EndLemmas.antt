@@ -1,6 +1,8 @@
 -- What is known of the segments of a header to which no row applies, where it ends.
-use Rattle.std.proofs.Common.{◌≡◌, ℕ, ◌+◌, ◌*◌, ◌/◌, ◌<◌, ◌≤◌, Bool, true, false, not, ◌==◌, ◌&&◌, List}
-use Rattle.std.proofs.Common.{[], ◌∷◌, ◌++◌, map, length, Option, Some, None, is_none, arith, ◌∙◌, sym, ap}
+use Rattle.std.proofs.Common.{◌≡◌, ℕ, ◌+◌, ◌*◌, ◌/◌, ◌<◌, ◌≤◌, Bool, true, false, not, ◌==◌, ◌&&◌}
+use Rattle.std.proofs.Common.{List}
+use Rattle.std.proofs.Common.{[], ◌∷◌, ◌++◌, map, length, Option, Some, None, is_none, arith, ◌∙◌}
+use Rattle.std.proofs.Common.{sym, ap}
 use Rattle.std.proofs.Common.{refl, subst, if◌then◌else◌, ◌||◌, nat_lt}
 use Rattle.std.proofs.Common.{Result, Ok, Err, IfOk, MatchResult}
 use Rattle.std.specs.Prelude.{slice_index}
@@ -14,10 +16,12 @@ use Rattle.cine_nums.specs.Faults.{Row, row, first_fault}
 use Rattle.cine_nums.specs.Profile.{is_four_k, levels_of, least_levels_of, parts_of}
 use Rattle.cine_nums.proofs.FaultLemmas.{none_of_both}
 use Rattle.dz_quantiser.specs.Bands.{planes_of}
-use Rattle.cinema_markers.specs.Tables.{siz_rows, siz_size_rows, cod_rows, cod_style_rows, cod_order_rows}
+use Rattle.cinema_markers.specs.Tables.{siz_rows, siz_size_rows, cod_rows, cod_style_rows}
+use Rattle.cinema_markers.specs.Tables.{cod_order_rows}
 use Rattle.cinema_markers.specs.Tables.{cod_block_rows, precinct_rows, qcd_rows, poc_rows, tlm_rows}
 use Rattle.cinema_markers.specs.Tables.{tile_rows, field_rows, rows_for, marker_rows, missing_rows}
-use Rattle.cinema_markers.specs.Tables.{band_row, bands_rows, change_rows, end_rows, next_rows, room_rows}
+use Rattle.cinema_markers.specs.Tables.{band_row, bands_rows, change_rows, end_rows, next_rows}
+use Rattle.cinema_markers.specs.Tables.{room_rows}
 use Rattle.cinema_markers.specs.Tables.{profile_at, entry_size}
 use Rattle.cinema_markers.specs.Reading.{found_in, StandsUpTo, EndsAt, HasFault, IsReadable}
 use Rattle.cinema_markers.specs.declared.found.Found.{Found}
@@ -35,20 +39,23 @@ profile_of bytes = profile_at bytes (Some 2)
 -- The fields of the segments.
 
 pub cod_here : (bytes : List ℕ) (at : ℕ) → StandsAt bytes 0xFF52 at →
-    (first_fault (cod_rows (profile_of bytes) bytes at) ≡ None) × (first_fault (precinct_rows bytes at) ≡ None)
+    (first_fault (cod_rows (profile_of bytes) bytes at) ≡ None) ×
+    (first_fault (precinct_rows bytes at) ≡ None)
 unfolding field_rows
 cod_here bytes at s =
     none_of_both (cod_rows (profile_of bytes) bytes at) (precinct_rows bytes at)
     (ap (λ n. first_fault (rows_for (profile_of bytes) bytes at n)) (sym s.is)
     ∙ stood_after_siz bytes 0xFF52 at s refl)
 
-pub qcd_here : (bytes : List ℕ) (at : ℕ) → StandsAt bytes 0xFF5C at → first_fault (qcd_rows bytes at) ≡ None
+pub qcd_here : (bytes : List ℕ) (at : ℕ) → StandsAt bytes 0xFF5C at →
+    first_fault (qcd_rows bytes at) ≡ None
 unfolding field_rows
 qcd_here bytes at s =
     ap (λ n. first_fault (rows_for (profile_of bytes) bytes at n)) (sym s.is)
     ∙ stood_after_siz bytes 0xFF5C at s refl
 
-pub poc_here : (bytes : List ℕ) (at : ℕ) → StandsAt bytes 0xFF5F at → first_fault (poc_rows bytes at) ≡ None
+pub poc_here : (bytes : List ℕ) (at : ℕ) → StandsAt bytes 0xFF5F at →
+    first_fault (poc_rows bytes at) ≡ None
 unfolding field_rows
 poc_here bytes at s =
     ap (λ n. first_fault (rows_for (profile_of bytes) bytes at n)) (sym s.is)
@@ -85,7 +92,8 @@ siz_of_first bytes at to stands =
       inside = subst (λ n. n + 2 + word_at bytes (n + 2) ≤ length bytes) first.0 within;
     }
 
-pub siz_here : (bytes : List ℕ) (at : ℕ) (before : List ℕ) (to : ℕ) → StandsUpTo bytes (at ∷ before) to →
+pub siz_here : (bytes : List ℕ) (at : ℕ) (before : List ℕ) (to : ℕ) →
+    StandsUpTo bytes (at ∷ before) to →
     SizHere bytes
 siz_here bytes at [] to stands = siz_of_first bytes at to stands
 siz_here bytes at (next ∷ before) to stands = siz_here bytes next before at stands.0
@@ -108,7 +116,8 @@ pub record AtEnd (bytes : List ℕ) (found : Found) : Type 0 where
       1 ≤ planes_of (slice_index bytes (unwrap_or found.qcd 0 + 4) / 32)
       (word_at bytes (unwrap_or found.qcd 0 + (5 + 2 * i)) / 2048)
   pub changes : is_four_k (profile_of bytes) ≡ true → first_fault
-      (change_rows bytes (slice_index bytes (unwrap_or found.cod 0 + 9)) (unwrap_or found.poc 0)) ≡ None
+      (change_rows bytes (slice_index bytes (unwrap_or found.cod 0 + 9)) (unwrap_or found.poc 0))
+      ≡ None
 
 some_planes : (n : ℕ) → (n == 0) ≡ false → 1 ≤ n
 some_planes n is = grind (arith, nat_tests)
@@ -124,7 +133,8 @@ ends_as bytes found siz at none =
     let levels = slice_index bytes (unwrap_or found.cod 0 + 9) in
     let qcd = unwrap_or found.qcd 0 in
     let poc = unwrap_or found.poc 0 in
-    let last = if is_four_k (profile_at bytes found.siz) then change_rows bytes levels poc else [] in
+    let last = if is_four_k
+    (profile_at bytes found.siz) then change_rows bytes levels poc else [] in
     let a = none_of_both (missing_rows bytes found at) (bands_rows bytes levels qcd ++ last) none in
     let b = none_of_both (bands_rows bytes levels qcd) last a.1 in
     let m = none_apply (missing_rows bytes found at) a.0 in
@@ -142,11 +152,13 @@ ends_as bytes found siz at none =
           (ap (λ p. is_four_k p && is_none found.poc) (sym profile) ∙ m.1.1.0) four);
       long = same r.0;
       planes = λ i below. some_planes
-          (planes_of (slice_index bytes (qcd + 4) / 32) (word_at bytes (qcd + (5 + 2 * i)) / 2048)) (ap (λ j. (band_row bytes qcd j).applies) (plus_zero i)
+          (planes_of (slice_index bytes (qcd + 4) / 32) (word_at bytes (qcd + (5 + 2 * i)) / 2048))
+          (ap (λ j. (band_row bytes qcd j).applies) (plus_zero i)
           ∙ each_row (band_row bytes qcd) 0 (3 * levels + 1) rows.1 i below);
       changes = λ four.
           ap (λ t. first_fault (if t then change_rows bytes levels poc else [])) (sym four)
-          ∙ ap (λ p. first_fault (if is_four_k p then change_rows bytes levels poc else [])) (sym profile)
+          ∙ ap (λ p. first_fault (if is_four_k p then change_rows bytes levels poc else []))
+          (sym profile)
           ∙ b.1;
     }
   where
@@ -178,10 +190,12 @@ has_segments bytes found at ends = by_list ends.before ends.stands ends.found_is
     by_list [] stands is =
         let none : first_fault (next_rows bytes (found_in bytes []) at) ≡ None =
         ap (λ f. first_fault (next_rows bytes f at)) (sym is) ∙ ends.end.none in
-        let both = none_of_both (marker_rows bytes (found_in bytes []) at) (other (found_in bytes [])) none in
+        let both = none_of_both (marker_rows bytes (found_in bytes []) at)
+        (other (found_in bytes [])) none in
         let m = none_apply (marker_rows bytes (found_in bytes []) at) both.0 in
         absurd (not_sot (word_at bytes at) ends.end.sot m.1.0)
-    by_list (last ∷ before) stands is = record { last = last; before = before; stands = stands; found_is = is }
+    by_list (last ∷ before) stands is =
+        record { last = last; before = before; stands = stands; found_is = is }
 
 pub at_end : (bytes : List ℕ) (found : Found) (at : ℕ) → EndsAt bytes found at → AtEnd bytes found
 unfolding next_rows
@@ -200,19 +214,22 @@ at_end bytes found at ends =
 pub cod_of : (bytes : List ℕ) (found : Found) (at : ℕ) → EndsAt bytes found at → AtEnd bytes found →
     StandsAt bytes 0xFF52 (unwrap_or found.cod 0)
 cod_of bytes found at ends known =
-    found_stands (λ f. f.cod) 0xFF52 keeps_cod bytes ends.before at (unwrap_or found.cod 0) ends.stands
+    found_stands (λ f. f.cod) 0xFF52 keeps_cod bytes ends.before at
+    (unwrap_or found.cod 0) ends.stands
     (ap (λ f. f.cod) (sym ends.found_is) ∙ known.cod)
 
 pub qcd_of : (bytes : List ℕ) (found : Found) (at : ℕ) → EndsAt bytes found at → AtEnd bytes found →
     StandsAt bytes 0xFF5C (unwrap_or found.qcd 0)
 qcd_of bytes found at ends known =
-    found_stands (λ f. f.qcd) 0xFF5C keeps_qcd bytes ends.before at (unwrap_or found.qcd 0) ends.stands
+    found_stands (λ f. f.qcd) 0xFF5C keeps_qcd bytes ends.before at
+    (unwrap_or found.qcd 0) ends.stands
     (ap (λ f. f.qcd) (sym ends.found_is) ∙ known.qcd)
 
 pub tlm_of : (bytes : List ℕ) (found : Found) (at : ℕ) → EndsAt bytes found at → AtEnd bytes found →
     StandsAt bytes 0xFF55 (unwrap_or found.tlm 0)
 tlm_of bytes found at ends known =
-    found_stands (λ f. f.tlm) 0xFF55 keeps_tlm bytes ends.before at (unwrap_or found.tlm 0) ends.stands
+    found_stands (λ f. f.tlm) 0xFF55 keeps_tlm bytes ends.before at
+    (unwrap_or found.tlm 0) ends.stands
     (ap (λ f. f.tlm) (sym ends.found_is) ∙ known.tlm)
 
 -- What COD says is in range.
@@ -289,9 +306,11 @@ is_readable bytes found at ends =
     let q_long = known.long in
     let q_within = q.inside in
     let q_end = q.to_is in
-    let t_long : word_at bytes (unwrap_or found.tlm 0 + 2) ≡ 4 + parts_of (profile_at bytes found.siz)
+    let t_long : word_at bytes (unwrap_or found.tlm 0 + 2)
+    ≡ 4 + parts_of (profile_at bytes found.siz)
     * entry_size (slice_index bytes (unwrap_or found.tlm 0 + 5)) =
-    t.long ∙ ap (λ n. 4 + n * entry_size (slice_index bytes (unwrap_or found.tlm 0 + 5))) (sym parts) in
+    t.long ∙ ap (λ n. 4 + n * entry_size (slice_index bytes (unwrap_or found.tlm 0 + 5)))
+    (sym parts) in
     let t_within = t.inside in
     record {
       siz = omega arith;

@@ -1,7 +1,8 @@
--- What is found in a header whose segments stand: SIZ first, each other kind at most once, and each at
--- a place where its segment stands.
+-- What is found in a header whose segments stand: SIZ first, each other kind at most once, and each
+-- at a place where its segment stands.
 use Rattle.std.proofs.Common.{◌≡◌, ℕ, ◌+◌, ◌≤◌, Bool, true, false, not, ◌==◌}
-use Rattle.std.proofs.Common.{◌&&◌, List, [], ◌∷◌, ◌++◌, length, Option, Some, None, is_none, is_some}
+use Rattle.std.proofs.Common.{◌&&◌, List, [], ◌∷◌, ◌++◌, length, Option, Some, None, is_none}
+use Rattle.std.proofs.Common.{is_some}
 use Rattle.std.proofs.Common.{arith, ◌∙◌, sym, ap, refl, subst, if◌then◌else◌}
 use Rattle.std.proofs.lemmas.Bool.Decides.{nat_tests}
 use Rattle.cine_nums.specs.Bytes.{word_at}
@@ -45,7 +46,8 @@ passed_as bytes found at to passed =
     (if word_at bytes at == 0xFF90 then end_rows bytes found at else room_rows bytes at ++ fields)
     passed.none in
     let later = none_of_both (room_rows bytes at) fields
-    (ap (λ b. first_fault (if b then end_rows bytes found at else room_rows bytes at ++ fields)) (sym other)
+    (ap (λ b. first_fault (if b then end_rows bytes found at else room_rows bytes at ++ fields))
+    (sym other)
     ∙ both.1) in
     let m = none_apply (marker_rows bytes found at) both.0 in
     let r = none_apply (room_rows bytes at) later.0 in
@@ -76,7 +78,8 @@ not_both : (b : Bool) (o : Option ℕ) (p : ℕ) → (b && is_some o) ≡ false 
 not_both true o p is some = absurd (let e = ap is_some some in cc)
 not_both false o p is some = refl
 
-pub siz_is_found : (bytes : List ℕ) (at : ℕ) (before : List ℕ) (to : ℕ) → StandsUpTo bytes (at ∷ before) to →
+pub siz_is_found : (bytes : List ℕ) (at : ℕ) (before : List ℕ) (to : ℕ) →
+    StandsUpTo bytes (at ∷ before) to →
     (found_in bytes (at ∷ before)).siz ≡ Some 2
 siz_is_found bytes at [] to ((soc, first), passed) =
     let p = passed_as bytes (found_in bytes []) at to passed in
@@ -85,7 +88,8 @@ siz_is_found bytes at [] to ((soc, first), passed) =
 siz_is_found bytes at (next ∷ before) to (stands, passed) =
     let p = passed_as bytes (found_in bytes (next ∷ before)) at to passed in
     let found = siz_is_found bytes next before at stands in
-    let other = not_both (word_at bytes at == 0xFF51) (found_in bytes (next ∷ before)).siz 2 p.siz found in
+    let other = not_both (word_at bytes at == 0xFF51)
+    (found_in bytes (next ∷ before)).siz 2 p.siz found in
     ap (λ b. if b then Some at else (found_in bytes (next ∷ before)).siz) other ∙ found
 
 pub first_is_siz : (bytes : List ℕ) (at to : ℕ) → StandsUpTo bytes (at ∷ []) to →
@@ -119,7 +123,8 @@ kind_tlm keeps = record { keeps = keeps; once = λ bytes found at to p. p.tlm }
 abbrev pub IsKept : (Found → Option ℕ) → Found → Found → Type 0
 IsKept pick all found = (p : ℕ) → pick found ≡ Some p → pick all ≡ Some p
 
-pub earlier_kept : (pick : Found → Option ℕ) (marker : ℕ) → Kind pick marker → (bytes : List ℕ) (all : Found)
+pub earlier_kept : (pick : Found → Option ℕ) (marker : ℕ) → Kind pick marker →
+    (bytes : List ℕ) (all : Found)
     (at : ℕ) (before : List ℕ) (to : ℕ) → Passed bytes (found_in bytes before) at to →
     IsKept pick all (found_in bytes (at ∷ before)) → IsKept pick all (found_in bytes before)
 earlier_kept pick marker kind bytes all at before to passed kept p is =
@@ -129,7 +134,8 @@ earlier_kept pick marker kind bytes all at before to passed kept p is =
     kept p (kind.keeps.step found (word_at bytes at) at
     ∙ ap (λ b. if b then Some at else pick found) other ∙ is)
 
-pub here_kept : (pick : Found → Option ℕ) (marker : ℕ) → Kind pick marker → (bytes : List ℕ) (all : Found)
+pub here_kept : (pick : Found → Option ℕ) (marker : ℕ) → Kind pick marker →
+    (bytes : List ℕ) (all : Found)
     (at : ℕ) (before : List ℕ) → word_at bytes at ≡ marker →
     IsKept pick all (found_in bytes (at ∷ before)) → pick all ≡ Some at
 here_kept pick marker kind bytes all at before is kept =
@@ -147,7 +153,8 @@ pub record StandsAt (bytes : List ℕ) (marker at : ℕ) : Type 0 where
   pub stands : StandsUpTo bytes (at ∷ before) to
   pub is : word_at bytes at ≡ marker
 
-pub found_stands : (pick : Found → Option ℕ) (marker : ℕ) → Keeps pick marker → (bytes before : List ℕ)
+pub found_stands : (pick : Found → Option ℕ) (marker : ℕ) → Keeps pick marker →
+    (bytes before : List ℕ)
     (to place : ℕ) → StandsUpTo bytes before to → pick (found_in bytes before) ≡ Some place →
     StandsAt bytes marker place
 found_stands pick marker keeps bytes [] to place stands is = absurd (let e = keeps.none in cc)
@@ -173,7 +180,13 @@ found_stands pick marker keeps bytes (at ∷ before) to place stands is =
     by_test true e later =
         let same : at ≡ place = same_place at place (step true e) in
         subst (StandsAt bytes marker) same
-        (record { before = before; to = to; stands = stands; is = when_is (word_at bytes at) marker e })
+        (record {
+          before = before;
+          to = to;
+          stands = stands;
+          is =
+              when_is (word_at bytes at) marker e;
+        })
     by_test false e later = later (step false e)
 
 -- and its fields are as they have to be in a header of the profile that SIZ gives

@@ -13,6 +13,7 @@ pub mod Precincts
 pub mod ReadBack
 pub mod ReadLemmas
 pub mod RowLaws
+pub mod RowRules
 pub mod SegmentLaws
 pub mod Spelled
 pub mod Standing

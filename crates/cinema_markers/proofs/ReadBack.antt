@@ -1,9 +1,13 @@
 -- Segments that stand are spelled: QCD, and all of them one after the other.
-use Rattle.std.proofs.Common.{◌≡◌, ℕ, zero, suc, ◌+◌, ◌-◌, ◌*◌, ◌/◌, ◌%◌, ◌<◌, ◌≤◌, Bool, true, false, ◌==◌, ◌&&◌, ◌||◌, if◌then◌else◌, List, [], ◌∷◌, ◌++◌, map, take, drop, length, None, arith, ◌∙◌, sym, ap, refl, append_assoc, add-zero}
+use Rattle.std.proofs.Common.{◌≡◌, ℕ, zero, suc, ◌+◌, ◌-◌, ◌*◌, ◌/◌, ◌%◌, ◌<◌, ◌≤◌, Bool, true}
+use Rattle.std.proofs.Common.{false, ◌==◌, ◌&&◌, ◌||◌, if◌then◌else◌, List, [], ◌∷◌, ◌++◌, map}
+use Rattle.std.proofs.Common.{take, drop, length, None, arith, ◌∙◌, sym, ap, refl, append_assoc}
+use Rattle.std.proofs.Common.{add-zero}
 use Rattle.std.specs.Prelude.{slice_index}
 use Rattle.std.specs.List.{range_with_len, flat_map}
 use Rattle.std.proofs.lemmas.Bool.Decides.{nat_tests}
-use Rattle.std.proofs.lemmas.List.{length-map, length-drop, length-take-le, drop-drop, take-append-drop}
+use Rattle.std.proofs.lemmas.List.{length-map, length-drop, length-take-le, drop-drop}
+use Rattle.std.proofs.lemmas.List.{take-append-drop}
 use Rattle.cine_nums.specs.declared.profile.Profile.TheVariants.{TwoK, FourK}
 use Rattle.cine_nums.specs.declared.profile.Profile.{Profile}
 use Rattle.cine_nums.specs.Profile.{parts_of}
@@ -14,49 +18,65 @@ use Rattle.cine_nums.specs.Bytes.{word_at, long_at}
 use Rattle.cinema_markers.specs.Fits.{AreAt}
 use Rattle.cinema_markers.specs.MainHeader.{qcd, poc, step_field}
 use Rattle.cine_nums.specs.Faults.{first_fault}
-use Rattle.cinema_markers.specs.Tables.{qcd_rows, is_change, tlm_rows, tile_row, tile_rows, entry_size, entry_place, index_at}
+use Rattle.cinema_markers.specs.Tables.{qcd_rows, is_change, tlm_rows, tile_row, tile_rows}
+use Rattle.cinema_markers.specs.Tables.{entry_size, entry_place, index_at}
 use Rattle.cinema_markers.specs.Reading.{StandsUpTo}
 use Rattle.cinema_markers.specs.Value.{band_step, steps_at, part_length}
-use Rattle.cinema_markers.specs.Words.{com_head, tlm_with, MainSegment, MainWords, spelled_segment, spelled_upto}
+use Rattle.cinema_markers.specs.Words.{com_head, tlm_with, MainSegment, MainWords, spelled_segment}
+use Rattle.cinema_markers.specs.Words.{spelled_upto}
 use Rattle.cinema_markers.specs.declared.header.MainHeader.{MainHeader}
 use Rattle.cinema_markers.proofs.SegmentLaws.{none_apply, not_below, same, each_row}
 
 bands_read : (bytes : List ℕ) (at off i n : ℕ) → off ≡ 5 + 2 * i →
     AreAt bytes at off (map step_field (map (band_step bytes at) (range_with_len i n)))
 bands_read bytes at off i zero is = tt
-bands_read bytes at off i (suc n) is =
-    (ap (λ o. word_at bytes (at + o)) is ∙ whole (word_at bytes (at + (5 + 2 * i))), bands_read bytes at (off + 2) (i + 1) n (omega arith))
+bands_read bytes at off i (suc n) is = (
+  ap (λ o. word_at bytes (at + o)) is
+      ∙ whole (word_at bytes (at + (5 + 2 * i))),
+  bands_read bytes at (off + 2) (i + 1) n
+      (omega arith),
+)
   where
     whole : (n : ℕ) → n ≡ n / 2048 * 2048 + n % 2048
     whole n = omega arith
 
--- what QCD at a place tells is spelled there
-pub qcd_is_read : (bytes : List ℕ) (at levels : ℕ) → word_at bytes at ≡ 0xFF5C → first_fault (qcd_rows bytes at) ≡ None →
-    word_at bytes (at + 2) ≡ 5 + 6 * levels → AreAt bytes at 0 (qcd levels (steps_at bytes at (3 * levels + 1)))
+-- what QCD at a place says is spelled there
+pub qcd_is_read : (bytes : List ℕ) (at levels : ℕ) → word_at bytes at ≡ 0xFF5C →
+    first_fault (qcd_rows bytes at) ≡ None →
+    word_at bytes (at + 2) ≡ 5 + 6 * levels →
+    AreAt bytes at 0 (qcd levels (steps_at bytes at (3 * levels + 1)))
 unfolding qcd_rows
 qcd_is_read bytes at levels marker none long =
     let r = none_apply (qcd_rows bytes at) none in
     let below : slice_index bytes (at + 4) % 32 ≤ 2 = not_below r.1.0 in
     let above : 2 ≤ slice_index bytes (at + 4) % 32 = not_below r.1.1.0 in
-    let style : slice_index bytes (at + 4) ≡ slice_index bytes (at + 4) / 32 * 32 + 2 = omega arith in
-    (ap (word_at bytes) (add-zero at) ∙ marker, (long, (style, bands_read bytes at 5 0 (3 * levels + 1) refl)))
+    let style : slice_index bytes (at + 4) ≡ slice_index bytes (at + 4) / 32 * 32 + 2 =
+    omega arith in (
+      ap (word_at bytes) (add-zero at)
+          ∙ marker,
+      (long, (style, bands_read bytes at 5 0 (3 * levels + 1) refl)),
+    )
 
--- All segments, where SIZ and each one behind it is spelled: w tells the words of the one at a place.
+-- All segments, where SIZ and each one after it is spelled: w gives the words of the one at a
+-- place.
 abbrev pub words_of : (ℕ → MainSegment) → List ℕ → List MainSegment
 words_of w [] = []
 words_of w (first ∷ []) = []
 words_of w (at ∷ next ∷ before) = w at ∷ words_of w (next ∷ before)
 
 pub spelled_back : (m : MainHeader) (words : MainWords) (bytes : List ℕ) (w : ℕ → MainSegment) →
-    ((first to : ℕ) → StandsUpTo bytes (first ∷ []) to → bytes ≡ spelled_upto m words [] ++ drop to bytes) →
-    ((at next to : ℕ) (before : List ℕ) → StandsUpTo bytes (at ∷ next ∷ before) to → drop at bytes ≡ spelled_segment m (w at) ++ drop to bytes) →
+    ((first to : ℕ) → StandsUpTo bytes (first ∷ []) to →
+    bytes ≡ spelled_upto m words [] ++ drop to bytes) →
+    ((at next to : ℕ) (before : List ℕ) → StandsUpTo bytes (at ∷ next ∷ before) to →
+    drop at bytes ≡ spelled_segment m (w at) ++ drop to bytes) →
     (at : ℕ) (before : List ℕ) (to : ℕ) → StandsUpTo bytes (at ∷ before) to →
     bytes ≡ spelled_upto m words (words_of w (at ∷ before)) ++ drop to bytes
 spelled_back m words bytes w siz each at [] to stands = siz at to stands
 spelled_back m words bytes w siz each at (next ∷ before) to stands =
     let front = spelled_upto m words (words_of w (next ∷ before)) in
     spelled_back m words bytes w siz each next before at stands.0
-    ∙ ap (λ t. front ++ t) (each at next to before stands) ∙ sym (append_assoc front (spelled_segment m (w at)) (drop to bytes))
+    ∙ ap (λ t. front ++ t) (each at next to before stands)
+    ∙ sym (append_assoc front (spelled_segment m (w at)) (drop to bytes))
 
 -- POC
 both_true : (x y : Bool) → (x && y) ≡ true → (x ≡ true) × (y ≡ true)
@@ -74,8 +94,9 @@ pub record IsChange (bytes : List ℕ) (p from to : ℕ) : Type 0 where
   pub ce : slice_index bytes (p + 5) ≡ 3
   pub order : slice_index bytes (p + 6) ≡ 4
 
-pub change_told : (bytes : List ℕ) (p from to : ℕ) → is_change bytes p from to ≡ true → IsChange bytes p from to
-change_told bytes p from to is =
+pub change_is : (bytes : List ℕ) (p from to : ℕ) → is_change bytes p from to ≡ true →
+    IsChange bytes p from to
+change_is bytes p from to is =
     let a1 = slice_index bytes p == from in
     let a2 = slice_index bytes (p + 1) == 0 in
     let a3 = word_at bytes (p + 2) == 1 in
@@ -95,12 +116,16 @@ change_told bytes p from to is =
       order = when_same (slice_index bytes (p + 6)) 4 t6.1;
     }
 
--- what POC at a place tells is spelled there, where it has the changes of the profile
-pub poc_is_read : (bytes : List ℕ) (at levels : ℕ) → word_at bytes at ≡ 0xFF5F → word_at bytes (at + 2) ≡ 16 →
-    IsChange bytes (at + 4) 0 levels → IsChange bytes (at + 11) levels (levels + 1) → AreAt bytes at 0 (poc FourK levels)
+-- what POC at a place says is spelled there, where it has the changes of the profile
+pub poc_is_read : (bytes : List ℕ) (at levels : ℕ) → word_at bytes at ≡ 0xFF5F →
+    word_at bytes (at + 2) ≡ 16 →
+    IsChange bytes (at + 4) 0 levels → IsChange bytes (at + 11) levels (levels + 1) →
+    AreAt bytes at 0 (poc FourK levels)
 poc_is_read bytes at levels marker long a c =
-    let b : (j k : ℕ) → j ≡ k → slice_index bytes j ≡ slice_index bytes k = λ j k e. ap (slice_index bytes) e in
-    let w : (j k : ℕ) → j ≡ k → word_at bytes j ≡ word_at bytes k = λ j k e. ap (word_at bytes) e in (
+    let b : (j k : ℕ) → j ≡ k → slice_index bytes j ≡ slice_index bytes k =
+    λ j k e. ap (slice_index bytes) e in
+    let w : (j k : ℕ) → j ≡ k → word_at bytes j ≡ word_at bytes k =
+    λ j k e. ap (word_at bytes) e in (
       ap (word_at bytes) (add-zero at) ∙ marker,
       (
         long,
@@ -145,9 +170,11 @@ poc_is_read bytes at levels marker long a c =
     )
 
 -- COM
-pub com_is_read : (bytes : List ℕ) (at : ℕ) → AreBytes bytes → word_at bytes at ≡ 0xFF64 → 2 ≤ word_at bytes (at + 2) →
+pub com_is_read : (bytes : List ℕ) (at : ℕ) → AreBytes bytes → word_at bytes at ≡ 0xFF64 →
+    2 ≤ word_at bytes (at + 2) →
     at + 2 + word_at bytes (at + 2) ≤ length bytes →
-    drop at bytes ≡ (segment (com_head (take (word_at bytes (at + 2) - 2) (drop (at + 4) bytes))) ++ take (word_at bytes (at + 2) - 2) (drop (at + 4) bytes))
+    drop at bytes ≡ (segment (com_head (take (word_at bytes (at + 2) - 2) (drop (at + 4) bytes)))
+    ++ take (word_at bytes (at + 2) - 2) (drop (at + 4) bytes))
     ++ drop (at + 2 + word_at bytes (at + 2)) bytes
 com_is_read bytes at small marker some inside =
     let n = word_at bytes (at + 2) - 2 in
@@ -161,52 +188,60 @@ com_is_read bytes at small marker some inside =
     ap (λ k. drop k bytes) (omega arith) ∙ sym (drop-drop n (at + 4) bytes) in
     let start : at ≡ at + 0 = omega arith in
     ap (λ k. drop k bytes) start
-    ∙ at_are_spelled bytes at 0 (com_head content) small (ap (word_at bytes) (add-zero at) ∙ marker, (long, tt)) (omega arith)
+    ∙ at_are_spelled bytes at 0 (com_head content) small
+    (ap (word_at bytes) (add-zero at) ∙ marker, (long, tt)) (omega arith)
     ∙ ap (λ k. head ++ drop k bytes) (omega arith)
     ∙ ap (λ t. head ++ t) (sym (take-append-drop n tail) ∙ ap (λ t. content ++ t) (sym rest))
     ∙ sym (append_assoc head content (drop (at + 2 + word_at bytes (at + 2)) bytes))
 
 -- TLM, by whether the index of the tile has 16 bits and whether the length has 32
-abbrev pub told_length : Bool → Bool → List ℕ → ℕ → ℕ → ℕ
-told_length b c bytes at i =
+abbrev pub length_in : Bool → Bool → List ℕ → ℕ → ℕ → ℕ
+length_in b c bytes at i =
     let place = at + (6 + i * size b c) + (if b then 2 else 1) in
     if c then long_at bytes place else word_at bytes place
 
 abbrev ZeroFrom : Bool → Bool → List ℕ → ℕ → ℕ → ℕ → Type 0
-ZeroFrom b c bytes at i n = (k : ℕ) → i ≤ k → k < i + n → index b bytes (at + (6 + k * size b c)) ≡ 0
+ZeroFrom b c bytes at i n = (k : ℕ) → i ≤ k → k < i + n →
+    index b bytes (at + (6 + k * size b c)) ≡ 0
 
-later_zero : (b c : Bool) (bytes : List ℕ) (at i n : ℕ) → ZeroFrom b c bytes at i (suc n) → ZeroFrom b c bytes at (i + 1) n
+later_zero : (b c : Bool) (bytes : List ℕ) (at i n : ℕ) → ZeroFrom b c bytes at i (suc n) →
+    ZeroFrom b c bytes at (i + 1) n
 later_zero b c bytes at i n each k low high = each k (omega arith) (omega arith)
 
-entries_read : (b c : Bool) (bytes : List ℕ) (at off i n : ℕ) → off ≡ 6 + i * size b c → ZeroFrom b c bytes at i n →
-    AreAt bytes at off (flat_map (entry b c) (map (told_length b c bytes at) (range_with_len i n)))
+entries_read : (b c : Bool) (bytes : List ℕ) (at off i n : ℕ) → off ≡ 6 + i * size b c →
+    ZeroFrom b c bytes at i n →
+    AreAt bytes at off (flat_map (entry b c) (map (length_in b c bytes at) (range_with_len i n)))
 entries_read b c bytes at off i zero is each = tt
 entries_read true true bytes at off i (suc n) is each = (
   ap (λ o. word_at bytes (at + o)) is ∙ each i (omega arith) (omega arith),
   (
     ap (long_at bytes) (omega arith),
-    entries_read true true bytes at (off + 2 + 4) (i + 1) n (omega arith) (later_zero true true bytes at i n each),
+    entries_read true true bytes at (off + 2 + 4) (i + 1) n (omega arith)
+        (later_zero true true bytes at i n each),
   ),
 )
 entries_read true false bytes at off i (suc n) is each = (
   ap (λ o. word_at bytes (at + o)) is ∙ each i (omega arith) (omega arith),
   (
     ap (word_at bytes) (omega arith),
-    entries_read true false bytes at (off + 2 + 2) (i + 1) n (omega arith) (later_zero true false bytes at i n each),
+    entries_read true false bytes at (off + 2 + 2) (i + 1) n (omega arith)
+        (later_zero true false bytes at i n each),
   ),
 )
 entries_read false true bytes at off i (suc n) is each = (
   ap (λ o. slice_index bytes (at + o)) is ∙ each i (omega arith) (omega arith),
   (
     ap (long_at bytes) (omega arith),
-    entries_read false true bytes at (off + 1 + 4) (i + 1) n (omega arith) (later_zero false true bytes at i n each),
+    entries_read false true bytes at (off + 1 + 4) (i + 1) n (omega arith)
+        (later_zero false true bytes at i n each),
   ),
 )
 entries_read false false bytes at off i (suc n) is each = (
   ap (λ o. slice_index bytes (at + o)) is ∙ each i (omega arith) (omega arith),
   (
     ap (word_at bytes) (omega arith),
-    entries_read false false bytes at (off + 1 + 2) (i + 1) n (omega arith) (later_zero false false bytes at i n each),
+    entries_read false false bytes at (off + 1 + 2) (i + 1) n (omega arith)
+        (later_zero false false bytes at i n each),
   ),
 )
 
@@ -218,10 +253,12 @@ range_length i (suc n) = ap (λ k. suc k) (range_length (i + 1) n)
 abbrev pub lengths_at : List ℕ → ℕ → ℕ → List ℕ
 lengths_at bytes at count = map (part_length bytes at) (range_with_len 0 count)
 
--- what TLM at a place tells is spelled there
-pub tlm_is_read : (profile : Profile) (bytes : List ℕ) (at : ℕ) → word_at bytes at ≡ 0xFF55 → first_fault (tlm_rows profile bytes at) ≡ None →
+-- what TLM at a place says is spelled there
+pub tlm_is_read : (profile : Profile) (bytes : List ℕ) (at : ℕ) → word_at bytes at ≡ 0xFF55 →
+    first_fault (tlm_rows profile bytes at) ≡ None →
     first_fault (tile_rows profile bytes at) ≡ None →
-    AreAt bytes at 0 (tlm_with (lengths_at bytes at (parts_of profile)) (slice_index bytes (at + 4)) (slice_index bytes (at + 5)))
+    AreAt bytes at 0 (tlm_with (lengths_at bytes at (parts_of profile)) (slice_index bytes (at + 4))
+    (slice_index bytes (at + 5)))
 unfolding tlm_rows tile_rows
 tlm_is_read profile bytes at marker none tiles =
     let stlm = slice_index bytes (at + 5) in
@@ -229,7 +266,8 @@ tlm_is_read profile bytes at marker none tiles =
     let c = stlm == 0x50 || stlm == 0x60 in
     let parts = lengths_at bytes at (parts_of profile) in
     let count : length parts ≡ parts_of profile =
-    length-map (range_with_len 0 (parts_of profile)) (part_length bytes at) ∙ range_length 0 (parts_of profile) in
+    length-map (range_with_len 0 (parts_of profile)) (part_length bytes at)
+    ∙ range_length 0 (parts_of profile) in
     let r = none_apply (tlm_rows profile bytes at) none in
     let long : word_at bytes (at + 2) ≡ 4 + parts_of profile * entry_size stlm = same r.1.1.0 in
     let swap = turned b c (parts_of profile) (few_parts profile) in

@@ -20,10 +20,12 @@ read_has bytes (Ok read) small is =
 read_has bytes (Err e) small is = tt
 
 pub read_once : (bytes : List ℕ) (r : Result MainRead MarkerRefusal) →
-    MatchResult r (IsRead bytes) (HasFault bytes) → (read : MainRead) → HasMain bytes read → r ≡ Ok read
+    MatchResult r (IsRead bytes) (HasFault bytes) → (read : MainRead) → HasMain bytes read →
+    r ≡ Ok read
 read_once bytes (Ok other) is read has =
     let found = found_in bytes (places_of read.main has.words has.words.segments) in
-    let same = ends_once bytes is.found found other.bytes read.bytes is.ends (main_ends bytes read has) in
+    let same = ends_once bytes is.found found other.bytes read.bytes is.ends
+    (main_ends bytes read has) in
     ap (λ x. Ok x) (is.is ∙ ap (λ f. main_at bytes f other.bytes) same.0
     ∙ ap (λ n. main_at bytes found n) same.1 ∙ sym (value_is bytes read has))
 read_once bytes (Err e) is read has =
@@ -36,6 +38,8 @@ refused_has bytes (Ok read) is = tt
 refused_has bytes (Err e) is = is
 
 pub fault_read : (bytes : List ℕ) (r : Result MainRead MarkerRefusal) →
-    MatchResult r (IsRead bytes) (HasFault bytes) → (fault : MarkerRefusal) → HasFault bytes fault → r ≡ Err fault
-fault_read bytes (Ok read) is fault has = absurd (end_or_fault bytes is.found read.bytes fault is.ends has)
+    MatchResult r (IsRead bytes) (HasFault bytes) → (fault : MarkerRefusal) → HasFault bytes fault →
+    r ≡ Err fault
+fault_read bytes (Ok read) is fault has =
+    absurd (end_or_fault bytes is.found read.bytes fault is.ends has)
 fault_read bytes (Err e) is fault has = ap (λ f. Err f) (fault_once bytes e fault is has)

@@ -26,12 +26,14 @@ use Rattle.cinema_markers.specs.Words.{IsSpelled, IsStep, HasMain}
 use Rattle.cinema_markers.specs.declared.found.Found.{Found}
 use Rattle.cinema_markers.specs.declared.header.MainHeader.{MainHeader}
 use Rattle.cinema_markers.specs.declared.header.MainRead.{MainRead}
-use Rattle.cinema_markers.proofs.Spelled.{are_at, entry, size, behind_entry, one_further, none_further}
+use Rattle.cinema_markers.proofs.Spelled.{are_at, entry, size, after_entry, one_further}
+use Rattle.cinema_markers.proofs.Spelled.{none_further}
 use Rattle.cinema_markers.proofs.Spelled.{siz_fit}
 use Rattle.cinema_markers.proofs.Standing.{AreMarked, keeps_cod, keeps_qcd, chain_marked, siz_found}
-use Rattle.cinema_markers.proofs.HasStands.{places_of, steps_fit, few_levels, chain_of, profile_told}
+use Rattle.cinema_markers.proofs.HasStands.{places_of, steps_fit, few_levels, chain_of, profile_is}
 use Rattle.cinema_markers.proofs.HasStands.{tlm_fields}
-use Rattle.cinema_markers.proofs.HasEnd.{present, is_coding, is_quantisation, cod_fields, qcd_fields}
+use Rattle.cinema_markers.proofs.HasEnd.{present, is_coding, is_quantisation, cod_fields}
+use Rattle.cinema_markers.proofs.HasEnd.{qcd_fields}
 
 -- The steps of QCD.
 
@@ -61,19 +63,23 @@ steps_are bytes at off guard (step ∷ bands) (here, f) (fit, each) (suc i) d be
     further : (n i : ℕ) → n + 2 + 2 * i ≡ n + 2 * suc i
     further n i = omega arith
 
-bands_are : (bytes : List ℕ) (at levels : ℕ) (steps : StepSizes) → AreAt bytes at 0 (qcd levels steps) →
-    length steps.bands.items ≡ 3 * levels + 1 → AllByRecursion (IsStep steps.guard) steps.bands.items →
+bands_are : (bytes : List ℕ) (at levels : ℕ) (steps : StepSizes) →
+    AreAt bytes at 0 (qcd levels steps) →
+    length steps.bands.items ≡ 3 * levels + 1 →
+    AllByRecursion (IsStep steps.guard) steps.bands.items →
     steps.bands.items ≡ map (band_step bytes at) (range_with_len 0 (3 * levels + 1))
 bands_are bytes at levels steps f count each =
     let none : BandStep = record { exponent = 0; mantissa = 0 } in
     fill_by_all (band_step bytes at) steps.bands.items (3 * levels + 1) none count
-    (λ k below. steps_are bytes at 5 steps.guard steps.bands.items f.1.1.1 each k none (omega arith))
+    (λ k below. steps_are bytes at 5 steps.guard steps.bands.items f.1.1.1 each k none
+    (omega arith))
 
 -- The lengths of TLM.
 
 abbrev length_here : Bool → Bool → List ℕ → ℕ → ℕ
 length_here b c bytes place =
-    if c then long_at bytes (place + (if b then 2 else 1)) else word_at bytes (place + (if b then 2 else 1))
+    if c then long_at bytes (place + (if b then 2 else 1)) else word_at bytes
+    (place + (if b then 2 else 1))
 
 first_length : (b c : Bool) (bytes : List ℕ) (at off n : ℕ) (rest : List ℕ) →
     AreAt bytes at off (flat_map (entry b c) (n ∷ rest)) → n ≡ length_here b c bytes (at + off)
@@ -91,10 +97,11 @@ lengths_are b c bytes at off (n ∷ parts) f zero below =
     ∙ ap (λ o. length_here b c bytes (at + o)) (sym (none_further off (size b c)))
 lengths_are b c bytes at off (n ∷ parts) f (suc i) below =
     lengths_are b c bytes at (off + size b c) parts
-    (behind_entry b c bytes at off n (flat_map (entry b c) parts) f) i (omega arith)
+    (after_entry b c bytes at off n (flat_map (entry b c) parts) f) i (omega arith)
     ∙ ap (λ o. length_here b c bytes (at + o)) (sym (one_further off i (size b c)))
 
-parts_are : (bytes parts : List ℕ) (at ztlm stlm count : ℕ) → AreAt bytes at 0 (tlm_with parts ztlm stlm) →
+parts_are : (bytes parts : List ℕ) (at ztlm stlm count : ℕ) →
+    AreAt bytes at 0 (tlm_with parts ztlm stlm) →
     length parts ≡ count → parts ≡ map (part_length bytes at) (range_with_len 0 count)
 parts_are bytes parts at ztlm stlm count f many =
     let b = stlm == 0x20 || stlm == 0x60 in
@@ -102,7 +109,8 @@ parts_are bytes parts at ztlm stlm count f many =
     let kind : stlm ≡ slice_index bytes (at + 5) = sym f.1.1.1.0 in
     fill_by_all (part_length bytes at) parts count 0 many (λ k below.
     lengths_are b c bytes at 6 parts f.1.1.1.1 k (omega arith)
-    ∙ ap (λ s. length_here (s == 0x20 || s == 0x60) (s == 0x50 || s == 0x60) bytes (entry_place at s k)) kind)
+    ∙ ap (λ s. length_here (s == 0x20 || s == 0x60) (s == 0x50 || s == 0x60) bytes
+    (entry_place at s k)) kind)
 
 -- TLM is found, and has the places.
 pub record PresentLengths (m : MainHeader) (words : MainWords) (bytes : List ℕ)
@@ -115,7 +123,8 @@ pub record PresentLengths (m : MainHeader) (words : MainWords) (bytes : List ℕ
   pub is : drop place bytes ≡ segment (tlm_with m.parts.items ztlm stlm) ++ more
   pub spelled : IsSpelled m.parts.items (lengths ztlm stlm)
   pub places : places_upto m words segments
-      ≡ map (λ i. entry_place place stlm i + index_size stlm) (range_with_len 0 (length m.parts.items))
+      ≡ map (λ i. entry_place place stlm i + index_size stlm)
+      (range_with_len 0 (length m.parts.items))
 
 later_lengths : (m : MainHeader) (words : MainWords) (bytes : List ℕ) (s : MainSegment)
     (segments : List MainSegment) → (marker_of s == 0xFF55) ≡ false →
@@ -139,13 +148,15 @@ later_lengths m words bytes s segments other marker same p =
       places = same ∙ p.places;
     }
 
-present_lengths : (m : MainHeader) (words : MainWords) (bytes : List ℕ) (segments : List MainSegment)
+present_lengths : (m : MainHeader) (words : MainWords) (bytes : List ℕ)
+    (segments : List MainSegment)
     (more : List ℕ) → bytes ≡ spelled_upto m words segments ++ more →
     AreMarked bytes segments (places_of m words segments) →
     AllByRecursion (IsSpelled m.parts.items) segments → 1 ≤ count_of 0xFF55 segments →
     PresentLengths m words bytes segments (found_in bytes (places_of m words segments))
 present_lengths m words bytes [] more is are each count = absurd (omega arith)
-present_lengths m words bytes (lengths ztlm stlm ∷ segments) more is (marker, are) (here, each) count =
+present_lengths m words bytes (lengths ztlm stlm ∷ segments) more is (marker, are)
+    (here, each) count =
     let before = spelled_upto m words segments in
     let mine = segment (tlm_with m.parts.items ztlm stlm) in
     let at = length before in
@@ -156,23 +167,28 @@ present_lengths m words bytes (lengths ztlm stlm ∷ segments) more is (marker, 
       stlm = stlm;
       more = more;
       found_is = ap (λ n. if n == 0xFF55 then Some at else found.tlm) marker;
-      is = ap (drop at) (is ∙ append_assoc before mine more) ∙ drop_at before (mine ++ more) at refl;
+      is = ap (drop at) (is ∙ append_assoc before mine more)
+          ∙ drop_at before (mine ++ more) at refl;
       spelled = here;
       places = refl;
     }
 present_lengths m words bytes (coding ∷ segments) more is (marker, are) (here, each) count =
     later_lengths m words bytes coding segments refl marker refl
     (present_lengths m words bytes segments (spelled_segment m coding ++ more)
-    (is ∙ append_assoc (spelled_upto m words segments) (spelled_segment m coding) more) are each count)
+    (is ∙ append_assoc (spelled_upto m words segments)
+    (spelled_segment m coding) more) are each count)
 present_lengths m words bytes (quantisation ∷ segments) more is (marker, are) (here, each) count =
     later_lengths m words bytes quantisation segments refl marker refl
     (present_lengths m words bytes segments (spelled_segment m quantisation ++ more)
-    (is ∙ append_assoc (spelled_upto m words segments) (spelled_segment m quantisation) more) are each count)
+    (is ∙ append_assoc (spelled_upto m words segments)
+    (spelled_segment m quantisation) more) are each count)
 present_lengths m words bytes (progression ∷ segments) more is (marker, are) (here, each) count =
     later_lengths m words bytes progression segments refl marker refl
     (present_lengths m words bytes segments (spelled_segment m progression ++ more)
-    (is ∙ append_assoc (spelled_upto m words segments) (spelled_segment m progression) more) are each count)
-present_lengths m words bytes (comment content ∷ segments) more is (marker, are) (here, each) count =
+    (is ∙ append_assoc (spelled_upto m words segments)
+    (spelled_segment m progression) more) are each count)
+present_lengths m words bytes (comment content ∷ segments) more is (marker, are)
+    (here, each) count =
     later_lengths m words bytes (comment content) segments refl marker refl
     (present_lengths m words bytes segments (spelled_segment m (comment content) ++ more)
     (is ∙ append_assoc (spelled_upto m words segments) (spelled_segment m (comment content)) more)
@@ -207,7 +223,8 @@ made profile width height levels flag guard bands parts places at = record {
 same_read : (a b : MainRead) → a.main.profile ≡ b.main.profile → a.main.width ≡ b.main.width →
     a.main.height ≡ b.main.height → a.main.levels ≡ b.main.levels → a.main.flag ≡ b.main.flag →
     a.main.steps.guard ≡ b.main.steps.guard → a.main.steps.bands.items ≡ b.main.steps.bands.items →
-    a.main.parts.items ≡ b.main.parts.items → a.parts_at.items ≡ b.parts_at.items → a.bytes ≡ b.bytes →
+    a.main.parts.items ≡ b.main.parts.items → a.parts_at.items ≡ b.parts_at.items →
+    a.bytes ≡ b.bytes →
     a ≡ b
 same_read a b profile width height levels flag guard bands parts places at =
     let m = a.main in
@@ -223,8 +240,8 @@ same_read a b profile width height levels flag guard bands parts places at =
     ∙ ap (λ x. made n.profile n.width n.height n.levels x g s l p a.bytes) flag
     ∙ ap (λ x. made n.profile n.width n.height n.levels n.flag x s l p a.bytes) guard
     ∙ ap (λ x. made n.profile n.width n.height n.levels n.flag n.steps.guard x l p a.bytes) bands
-    ∙ ap (λ x. made n.profile n.width n.height n.levels n.flag n.steps.guard n.steps.bands.items x p a.bytes)
-    parts
+    ∙ ap (λ x. made n.profile n.width n.height n.levels n.flag n.steps.guard n.steps.bands.items
+    x p a.bytes) parts
     ∙ ap (λ x. made n.profile n.width n.height n.levels n.flag n.steps.guard n.steps.bands.items
     n.parts.items x a.bytes) places
     ∙ ap (λ x. made n.profile n.width n.height n.levels n.flag n.steps.guard n.steps.bands.items
@@ -235,7 +252,8 @@ guard_is n guard is = omega arith
 
 -- what is read is what is found at the places of the segments
 pub value_is : (bytes : List ℕ) (read : MainRead) → (has : HasMain bytes read) →
-    read ≡ main_at bytes (found_in bytes (places_of read.main has.words has.words.segments)) read.bytes
+    read ≡ main_at bytes (found_in bytes
+    (places_of read.main has.words has.words.segments)) read.bytes
 value_is bytes read has =
     let m = read.main in
     let words = has.words in
@@ -253,14 +271,16 @@ value_is bytes read has =
     (chain_of m words bytes segments more fits fits.each is) in
     let siz_is = siz_found bytes segments places are in
     let profile : profile_at bytes found.siz ≡ m.profile =
-    ap (profile_at bytes) siz_is ∙ (profile_told m words bytes segments more is).1 in
+    ap (profile_at bytes) siz_is ∙ (profile_is m words bytes segments more is).1 in
     let siz = siz_there m words bytes segments more is in
     let sf = are_at bytes siz.0 2
     (siz_with m.profile m.width m.height words.tile_width words.tile_height)
     (siz_fit m.width m.height words.tile_width words.tile_height m.profile fits.width fits.height
     fits.short_width fits.short_height) siz.1 in
-    let c = present (λ f. f.cod) 0xFF52 keeps_cod m words bytes segments more is are (omega arith) in
-    let q = present (λ f. f.qcd) 0xFF5C keeps_qcd m words bytes segments more is are (omega arith) in
+    let c = present (λ f. f.cod) 0xFF52 keeps_cod m words bytes segments more is are
+    (omega arith) in
+    let q = present (λ f. f.qcd) 0xFF5C keeps_qcd m words bytes segments more is are
+    (omega arith) in
     let t = present_lengths m words bytes segments more is are fits.each (omega arith) in
     let cf : AreAt bytes c.place 0 (cod m.levels m.flag) =
     cod_fields bytes c.more c.place m.levels m.flag few fits.flag
@@ -270,16 +290,20 @@ value_is bytes read has =
     (steps_fit m.steps.guard m.steps.bands.items fits.steps)
     (q.is ∙ ap (λ s. spelled_segment m s ++ q.more) (is_quantisation q.s q.kind)) in
     let tf : AreAt bytes t.place 0 (tlm_with m.parts.items t.ztlm t.stlm) =
-    tlm_fields bytes t.more m.parts.items t.place t.ztlm t.stlm m.profile fits.parts t.spelled t.is in
+    tlm_fields bytes t.more m.parts.items t.place t.ztlm t.stlm m.profile fits.parts
+    t.spelled t.is in
     let levels : m.levels ≡ slice_index bytes (unwrap_or found.cod 0 + 9) =
     sym (ap (λ o. slice_index bytes (unwrap_or o 0 + 9)) c.found_is ∙ cf.1.1.1.1.1.1.0) in
     let bands : m.steps.bands.items
     ≡ map (band_step bytes (unwrap_or found.qcd 0))
     (range_with_len 0 (3 * slice_index bytes (unwrap_or found.cod 0 + 9) + 1)) =
     bands_are bytes q.place m.levels m.steps qf fits.bands fits.steps
-    ∙ ap (λ o. map (band_step bytes (unwrap_or o 0)) (range_with_len 0 (3 * m.levels + 1))) (sym q.found_is)
-    ∙ ap (λ l. map (band_step bytes (unwrap_or found.qcd 0)) (range_with_len 0 (3 * l + 1))) levels in
-    let count : parts_of m.profile ≡ parts_of (profile_at bytes found.siz) = ap parts_of (sym profile) in
+    ∙ ap (λ o. map (band_step bytes (unwrap_or o 0)) (range_with_len 0 (3 * m.levels + 1)))
+    (sym q.found_is)
+    ∙ ap (λ l. map (band_step bytes (unwrap_or found.qcd 0))
+    (range_with_len 0 (3 * l + 1))) levels in
+    let count : parts_of m.profile ≡ parts_of (profile_at bytes found.siz) =
+    ap parts_of (sym profile) in
     let parts : m.parts.items ≡ map (part_length bytes (unwrap_or found.tlm 0))
     (range_with_len 0 (parts_of (profile_at bytes found.siz))) =
     parts_are bytes m.parts.items t.place t.ztlm t.stlm (parts_of (profile_at bytes found.siz)) tf

@@ -1,5 +1,6 @@
 -- What the writer writes is a main header.
-use Rattle.std.proofs.Common.{◌≡◌, ℕ, suc, ◌+◌, ◌*◌, ◌<◌, ◌≤◌, List, [], ◌∷◌, ◌++◌, length, inl, inr, arith, ◌∙◌, ap, refl, append-nil, get_or, if◌then◌else◌}
+use Rattle.std.proofs.Common.{◌≡◌, ℕ, suc, ◌+◌, ◌*◌, ◌<◌, ◌≤◌, List, [], ◌∷◌, ◌++◌, length, inl}
+use Rattle.std.proofs.Common.{inr, arith, ◌∙◌, ap, refl, append-nil, get_or, if◌then◌else◌}
 use Rattle.std.specs.List.{All, AllByRecursion}
 use Rattle.cine_nums.specs.declared.profile.Profile.{Profile}
 use Rattle.cine_nums.specs.declared.profile.Profile.TheVariants.{TwoK, FourK}
@@ -9,44 +10,60 @@ use Rattle.dz_quantiser.specs.declared.band.BandStep.{BandStep}
 use Rattle.cinema_markers.specs.Fields.{segment}
 use Rattle.cinema_markers.specs.MainHeader.{main_header_of, soc, siz, cod, qcd, poc, tlm}
 use Rattle.cine_nums.specs.Profile.{least_levels_of, is_four_k}
-use Rattle.cinema_markers.specs.Words.{spelled_upto, written_segments, written_words, read_of, IsSpelled, IsStep, MainFits, HasMain, main_words, count_of}
+use Rattle.cinema_markers.specs.Words.{spelled_upto, written_segments, written_words, read_of}
+use Rattle.cinema_markers.specs.Words.{IsSpelled, IsStep, MainFits, HasMain, main_words, count_of}
 use Rattle.cinema_markers.specs.declared.header.MainHeader.{MainHeader}
 
 -- the bytes
 written_bytes : (m : MainHeader) (p : Profile) →
-    segment soc ++ segment (siz m.profile m.width m.height) ++ segment (cod m.levels m.flag) ++ segment (qcd m.levels m.steps)
+    segment soc ++ segment (siz m.profile m.width m.height) ++ segment (cod m.levels m.flag)
+    ++ segment (qcd m.levels m.steps)
     ++ segment (poc p m.levels) ++ segment (tlm m.parts.items)
     ≡ spelled_upto m (written_words m) (written_segments p)
 written_bytes m TwoK =
     ap (λ t. t ++ segment (tlm m.parts.items))
-    (append-nil (segment soc ++ segment (siz m.profile m.width m.height) ++ segment (cod m.levels m.flag) ++ segment (qcd m.levels m.steps)))
+    (append-nil (segment soc ++ segment (siz m.profile m.width m.height)
+    ++ segment (cod m.levels m.flag) ++ segment (qcd m.levels m.steps)))
 written_bytes m FourK = refl
 
-short_lengths : (parts : List ℕ) → ((k : ℕ) → get_or parts k 0 < 4294967296) → AllByRecursion (λ n. n < 4294967296) parts
+short_lengths : (parts : List ℕ) → ((k : ℕ) → get_or parts k 0 < 4294967296) →
+    AllByRecursion (λ n. n < 4294967296) parts
 short_lengths [] each = tt
 short_lengths (n ∷ parts) each = (each 0, short_lengths parts (λ k. each (suc k)))
 
 each_spelled : (parts : List ℕ) (p : Profile) → ((k : ℕ) → get_or parts k 0 < 4294967296) →
     AllByRecursion (IsSpelled parts) (written_segments p)
-each_spelled parts TwoK each = ((omega arith, inr (inr (inl refl)), short_lengths parts each), (tt, (tt, tt)))
-each_spelled parts FourK each = ((omega arith, inr (inr (inl refl)), short_lengths parts each), (tt, (tt, (tt, tt))))
+each_spelled parts TwoK each =
+    ((omega arith, inr (inr (inl refl)), short_lengths parts each), (tt, (tt, tt)))
+each_spelled parts FourK each =
+    ((omega arith, inr (inr (inl refl)), short_lengths parts each), (tt, (tt, (tt, tt))))
 
 -- a step has its ranges
-each_step : (guard : ℕ) (steps : List BandStep) → All (λ step. step.exponent < 32) steps → All (λ step. step.mantissa < 2048) steps →
+each_step : (guard : ℕ) (steps : List BandStep) → All (λ step. step.exponent < 32) steps →
+    All (λ step. step.mantissa < 2048) steps →
     All (λ step. 1 ≤ planes_of guard step.exponent) steps → AllByRecursion (IsStep guard) steps
 each_step guard [] x y z = tt
 each_step guard (step ∷ steps) x y z = (
-  record { exponent = x 0 step (omega arith); mantissa = y 0 step (omega arith); planes = z 0 step (omega arith) },
-  each_step guard steps (λ k d h. x (suc k) d (omega (arith, h))) (λ k d h. y (suc k) d (omega (arith, h)))
+  record {
+    exponent = x 0 step (omega arith);
+    mantissa = y 0 step (omega arith);
+    planes =
+        z 0 step (omega arith);
+  },
+  each_step guard steps (λ k d h. x (suc k) d (omega (arith, h)))
+      (λ k d h. y (suc k) d (omega (arith, h)))
       (λ k d h. z (suc k) d (omega (arith, h))),
 )
 
-counts : (p : Profile) → (count_of 0xFF52 (written_segments p) ≡ 1) × (count_of 0xFF5C (written_segments p) ≡ 1)
-    × (count_of 0xFF5F (written_segments p) ≡ (if is_four_k p then 1 else 0)) × (count_of 0xFF55 (written_segments p) ≡ 1)
+counts : (p : Profile) → (count_of 0xFF52 (written_segments p) ≡ 1) ×
+    (count_of 0xFF5C (written_segments p) ≡ 1)
+    × (count_of 0xFF5F (written_segments p) ≡ (if is_four_k p then 1 else 0)) ×
+    (count_of 0xFF55 (written_segments p) ≡ 1)
 counts TwoK = (refl, refl, refl, refl)
 counts FourK = (refl, refl, refl, refl)
 
-most : (p : Profile) → (least_levels_of p ≤ levels_of p) × (max_width_of p < 4294967296) × (max_height_of p < 4294967296)
+most : (p : Profile) → (least_levels_of p ≤ levels_of p) × (max_width_of p < 4294967296) ×
+    (max_height_of p < 4294967296)
 most TwoK = (omega arith, omega arith, omega arith)
 most FourK = (omega arith, omega arith, omega arith)
 
@@ -64,7 +81,8 @@ pub record CanWrite (m : MainHeader) : Type 0 where
   pub parts : length m.parts.items ≡ parts_of m.profile
   pub short : (k : ℕ) → get_or m.parts.items k 0 < 4294967296
 
-written_fits : (m : MainHeader) → CanWrite m → All (λ step. 1 ≤ planes_of m.steps.guard step.exponent) m.steps.bands.items →
+written_fits : (m : MainHeader) → CanWrite m →
+    All (λ step. 1 ≤ planes_of m.steps.guard step.exponent) m.steps.bands.items →
     MainFits m (written_words m)
 written_fits m can planes =
     let number = counts m.profile in
@@ -93,7 +111,8 @@ written_fits m can planes =
     }
 
 pub written_is_main : (m : MainHeader) (bytes rest : List ℕ) → CanWrite m →
-    All (λ step. 1 ≤ planes_of m.steps.guard step.exponent) m.steps.bands.items → bytes ≡ main_header_of m →
+    All (λ step. 1 ≤ planes_of m.steps.guard step.exponent) m.steps.bands.items →
+    bytes ≡ main_header_of m →
     HasMain (bytes ++ 0xFF ∷ 0x90 ∷ rest) (read_of m)
 unfolding main_header_of
 written_is_main m bytes rest can planes is =

@@ -30,7 +30,8 @@ IsAt bytes at (Byte n) = slice_index bytes at ≡ n
 IsAt bytes at (Short n) = word_at bytes at ≡ n
 IsAt bytes at (Long n) = long_at bytes at ≡ n
 
--- the fields are read, one after the other, from so many bytes behind a place on
+-- the fields are read, one after the other, from so many bytes after a place on
 abbrev pub AreAt : List ℕ → ℕ → ℕ → List Field → Type 0
 AreAt bytes at off [] = Unit {0}
-AreAt bytes at off (field ∷ fields) = IsAt bytes (at + off) field × AreAt bytes at (off + width field) fields
+AreAt bytes at off (field ∷ fields) =
+    IsAt bytes (at + off) field × AreAt bytes at (off + width field) fields

@@ -1,5 +1,7 @@
--- The first fault of a main header over any bytes: segments stand up to a place, and a row applies there.
-use Rattle.std.specs.Prelude.{ℕ, ◌+◌, ◌*◌, ◌≡◌, ◌≤◌, ◌⊎◌, List, [], ◌∷◌, length, slice_index, Some, None, IsSome}
+-- The first fault of a main header over any bytes: segments stand up to a place, and a row applies
+-- there.
+use Rattle.std.specs.Prelude.{ℕ, ◌+◌, ◌*◌, ◌≡◌, ◌≤◌, ◌⊎◌, List, [], ◌∷◌, length, slice_index, Some}
+use Rattle.std.specs.Prelude.{None, IsSome}
 use Rattle.std.specs.Option.{unwrap_or}
 use Rattle.cine_nums.specs.Bytes.{word_at}
 use Rattle.cine_nums.specs.Faults.{first_fault}
@@ -8,7 +10,7 @@ use Rattle.cinema_markers.specs.Tables.{soc_rows, next_rows, noted, profile_at, 
 use Rattle.cinema_markers.specs.declared.found.Found.{Found}
 use Rattle.cinema_markers.specs.declared.refusal.MarkerRefusal.{MarkerRefusal}
 
--- Segments are told by their places, the last one first. Which of them are found:
+-- Segments are named by their places, the last one first. Which of them are found:
 abbrev pub found_in : List ℕ → List ℕ → Found
 found_in bytes [] = record { siz = None; cod = None; qcd = None; poc = None; tlm = None }
 found_in bytes (place ∷ before) = noted (found_in bytes before) (word_at bytes place) place
@@ -22,10 +24,11 @@ pub record Passed (bytes : List ℕ) (found : Found) (at to : ℕ) : Type 0 wher
 -- from SOC up to a place stand segments to which no row applies
 abbrev pub StandsUpTo : List ℕ → List ℕ → ℕ → Type 0
 StandsUpTo bytes [] at = (first_fault (soc_rows bytes) ≡ None) × (at ≡ 2)
-StandsUpTo bytes (place ∷ before) at = StandsUpTo bytes before place × Passed bytes (found_in bytes before) place at
+StandsUpTo bytes (place ∷ before) at =
+    StandsUpTo bytes before place × Passed bytes (found_in bytes before) place at
 
--- behind them, at this place, is a fault
-pub record FaultBehind (bytes : List ℕ) (fault : MarkerRefusal) : Type 0 where
+-- after them, at this place, is a fault
+pub record FaultAfter (bytes : List ℕ) (fault : MarkerRefusal) : Type 0 where
   pub before : List ℕ
   pub at : ℕ
   pub stands : StandsUpTo bytes before at
@@ -33,7 +36,7 @@ pub record FaultBehind (bytes : List ℕ) (fault : MarkerRefusal) : Type 0 where
 
 -- the first fault of a main header
 abbrev pub HasFault : List ℕ → MarkerRefusal → Type 0
-HasFault bytes fault = (first_fault (soc_rows bytes) ≡ Some fault) ⊎ FaultBehind bytes fault
+HasFault bytes fault = (first_fault (soc_rows bytes) ≡ Some fault) ⊎ FaultAfter bytes fault
 
 -- SOT stands at a place, and no row applies
 pub record IsEnd (bytes : List ℕ) (found : Found) (at : ℕ) : Type 0 where

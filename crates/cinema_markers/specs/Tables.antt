@@ -1,23 +1,33 @@
--- What is judged of a main header that may be any bytes, segment by segment, and in which order (ISO/IEC
--- 15444-1, A.2, A.5 to A.7). A row is one line: whether it applies, and what is refused then. The first
--- row that applies tells the fault. Places count from the first byte of the whole.
-use Rattle.std.specs.Prelude.{ℕ, ◌+◌, ◌*◌, ◌/◌, ◌%◌, Bool, not, ◌&&◌, ◌||◌, ◌==◌, nat_lt, List, [], ◌∷◌, ◌++◌, length, map, slice_index, Option, Some, None, is_none, is_some, if◌then◌else◌}
+-- What is judged of a main header that may be any bytes, segment by segment, and in which order
+-- (ISO/IEC 15444-1, A.2, A.5 to A.7). A row is one line: whether it applies, and what is refused
+-- then. The first row that applies gives the fault. Places count from the first byte of the whole.
+use Rattle.std.specs.Prelude.{ℕ, ◌+◌, ◌*◌, ◌/◌, ◌%◌, Bool, not, ◌&&◌, ◌||◌, ◌==◌, nat_lt, List, []}
+use Rattle.std.specs.Prelude.{◌∷◌, ◌++◌, length, map, slice_index, Option, Some, None, is_none}
+use Rattle.std.specs.Prelude.{is_some, if◌then◌else◌}
 use Rattle.std.specs.Option.{unwrap_or}
 use Rattle.std.specs.List.{range_with_len}
 use Rattle.cine_nums.specs.declared.profile.Profile.{Profile}
 use Rattle.cine_nums.specs.declared.profile.Profile.TheVariants.{TwoK, FourK}
 use Rattle.cine_nums.specs.Coding.{block_exponent, precinct_byte, progression}
 use Rattle.cine_nums.specs.Faults.{Row, row}
-use Rattle.cine_nums.specs.Profile.{levels_of, parts_of, max_width_of, max_height_of, least_levels_of, is_four_k}
+use Rattle.cine_nums.specs.Profile.{levels_of, parts_of, max_width_of, max_height_of}
+use Rattle.cine_nums.specs.Profile.{least_levels_of, is_four_k}
 use Rattle.dz_quantiser.specs.Bands.{planes_of}
 use Rattle.cine_nums.specs.Bytes.{word_at, long_at}
 use Rattle.cinema_markers.specs.declared.found.Found.{Found}
 use Rattle.cinema_markers.specs.declared.refusal.MarkerRefusal.{MarkerRefusal}
-use Rattle.cinema_markers.specs.declared.refusal.MarkerRefusal.TheVariants.{NotSoc, SegmentTruncated, UnexpectedMarker, Repeated, Missing, BadSiz, BadCod, BadQcd, BadPoc, BadTlm, NotCinema, TooLarge, OutsideProfile}
+use Rattle.cinema_markers.specs.declared.refusal.MarkerRefusal.TheVariants.{NotSoc}
+use Rattle.cinema_markers.specs.declared.refusal.MarkerRefusal.TheVariants.{SegmentTruncated}
+use Rattle.cinema_markers.specs.declared.refusal.MarkerRefusal.TheVariants.{UnexpectedMarker}
+use Rattle.cinema_markers.specs.declared.refusal.MarkerRefusal.TheVariants.{Repeated, Missing}
+use Rattle.cinema_markers.specs.declared.refusal.MarkerRefusal.TheVariants.{BadSiz, BadCod, BadQcd}
+use Rattle.cinema_markers.specs.declared.refusal.MarkerRefusal.TheVariants.{BadPoc, BadTlm}
+use Rattle.cinema_markers.specs.declared.refusal.MarkerRefusal.TheVariants.{NotCinema, TooLarge}
+use Rattle.cinema_markers.specs.declared.refusal.MarkerRefusal.TheVariants.{OutsideProfile}
 
--- the profile that Rsiz tells
+-- the profile of Rsiz, which is 3 or 4
 abbrev pub profile_with : ℕ → Profile
-profile_with told = if told == 3 then TwoK else FourK
+profile_with rsiz = if rsiz == 3 then TwoK else FourK
 
 -- the start
 unfoldable pub soc_rows : List ℕ → List (Row MarkerRefusal)
@@ -109,10 +119,12 @@ cod_rows profile bytes at =
 -- the sizes of precincts of COD
 abbrev pub precinct_row : List ℕ → ℕ → ℕ → Row MarkerRefusal
 precinct_row bytes at r =
-    row (not (slice_index bytes (at + (14 + r)) == precinct_byte r)) (OutsideProfile (at + (14 + r)) 9)
+    row (not (slice_index bytes (at + (14 + r)) == precinct_byte r))
+    (OutsideProfile (at + (14 + r)) 9)
 
 unfoldable pub precinct_rows : List ℕ → ℕ → List (Row MarkerRefusal)
-precinct_rows bytes at = map (precinct_row bytes at) (range_with_len 0 (slice_index bytes (at + 9) + 1))
+precinct_rows bytes at = map (precinct_row bytes at)
+    (range_with_len 0 (slice_index bytes (at + 9) + 1))
 
 -- QCD at a place: Lqcd, and the style in Sqcd
 unfoldable pub qcd_rows : List ℕ → ℕ → List (Row MarkerRefusal)
@@ -138,11 +150,13 @@ entry_size stlm = index_size stlm + length_size stlm
 
 -- the index of a tile at a place
 abbrev pub index_at : ℕ → List ℕ → ℕ → ℕ
-index_at stlm bytes at = if stlm == 0x20 || stlm == 0x60 then word_at bytes at else slice_index bytes at
+index_at stlm bytes at =
+    if stlm == 0x20 || stlm == 0x60 then word_at bytes at else slice_index bytes at
 
 -- a length at a place
 abbrev pub length_at : ℕ → List ℕ → ℕ → ℕ
-length_at stlm bytes at = if stlm == 0x50 || stlm == 0x60 then long_at bytes at else word_at bytes at
+length_at stlm bytes at =
+    if stlm == 0x50 || stlm == 0x60 then long_at bytes at else word_at bytes at
 
 -- TLM at a place
 unfoldable pub tlm_rows : Profile → List ℕ → ℕ → List (Row MarkerRefusal)
@@ -185,10 +199,11 @@ unfoldable pub room_rows : List ℕ → ℕ → List (Row MarkerRefusal)
 room_rows bytes at =
     row (nat_lt (length bytes) (at + 4)) (SegmentTruncated (length bytes))
     ∷ row (nat_lt (word_at bytes (at + 2)) 2) (SegmentTruncated (at + 2))
-    ∷ row (nat_lt (length bytes) (at + 2 + word_at bytes (at + 2))) (SegmentTruncated (length bytes))
+    ∷ row (nat_lt (length bytes) (at + 2 + word_at bytes (at + 2)))
+    (SegmentTruncated (length bytes))
     ∷ []
 
--- the profile that SIZ tells; before SIZ it decides nothing
+-- the profile that SIZ gives; before SIZ it decides nothing
 abbrev pub profile_at : List ℕ → Option ℕ → Profile
 profile_at bytes None = TwoK
 profile_at bytes (Some siz) = profile_with (word_at bytes (siz + 4))
@@ -197,7 +212,8 @@ profile_at bytes (Some siz) = profile_with (word_at bytes (siz + 4))
 abbrev pub feature_of : ℕ → ℕ
 feature_of marker =
     if marker == 0xFF53 then 1 else if marker == 0xFF5D then 2 else if marker == 0xFF5E then 3
-    else if marker == 0xFF60 then 4 else if marker == 0xFF57 then 5 else if marker == 0xFF63 then 6 else 0
+    else if marker == 0xFF60 then 4 else if marker == 0xFF57 then 5 else if marker == 0xFF63 then 6
+    else 0
 
 -- SIZ, COD, QCD, POC, TLM, COM, SOT
 abbrev pub is_allowed : ℕ → Bool
@@ -205,7 +221,7 @@ is_allowed marker =
     marker == 0xFF51 || marker == 0xFF52 || marker == 0xFF5C || marker == 0xFF5F || marker == 0xFF55
     || marker == 0xFF64 || marker == 0xFF90
 
--- the marker at a place, behind the segments that were found
+-- the marker at a place, after the segments that were found
 unfoldable pub marker_rows : List ℕ → Found → ℕ → List (Row MarkerRefusal)
 marker_rows bytes found at =
     let marker = word_at bytes at in
@@ -235,7 +251,8 @@ missing_rows bytes found at =
 -- QCD against the levels: Lqcd; and each band has a plane
 abbrev pub band_row : List ℕ → ℕ → ℕ → Row MarkerRefusal
 band_row bytes qcd i =
-    row (planes_of (slice_index bytes (qcd + 4) / 32) (word_at bytes (qcd + (5 + 2 * i)) / 2048) == 0) (BadQcd qcd)
+    row (planes_of (slice_index bytes (qcd + 4) / 32)
+    (word_at bytes (qcd + (5 + 2 * i)) / 2048) == 0) (BadQcd qcd)
 
 unfoldable pub bands_rows : List ℕ → ℕ → ℕ → List (Row MarkerRefusal)
 bands_rows bytes levels qcd =
@@ -261,9 +278,10 @@ end_rows bytes found at =
     let levels = slice_index bytes (unwrap_or found.cod 0 + 9) in
     missing_rows bytes found at
     ++ (bands_rows bytes levels (unwrap_or found.qcd 0)
-    ++ (if is_four_k (profile_at bytes found.siz) then change_rows bytes levels (unwrap_or found.poc 0) else []))
+    ++ (if is_four_k (profile_at bytes found.siz) then change_rows bytes levels
+    (unwrap_or found.poc 0) else []))
 
--- what stands at a place behind the segments that were found
+-- what stands at a place after the segments that were found
 unfoldable pub next_rows : List ℕ → Found → ℕ → List (Row MarkerRefusal)
 next_rows bytes found at =
     marker_rows bytes found at

@@ -1,11 +1,14 @@
--- A main header as the reader takes it: what it tells, and how it spells that (ISO/IEC 15444-1, A.5 to A.7, A.9.2).
-use Rattle.std.specs.Prelude.{ℕ, ◌+◌, ◌*◌, ◌≡◌, ◌≤◌, ◌<◌, ◌^◌, ◌⊎◌, ◌==◌, ◌||◌, if◌then◌else◌, List, [], ◌∷◌, ◌++◌, length, map}
-use Rattle.std.specs.List.{flat_map, AllByRecursion, range_with_len}
+-- A main header as the reader takes it: what it says, and how it spells that (ISO/IEC 15444-1, A.5
+-- to A.7, A.9.2).
+use Rattle.std.specs.Prelude.{ℕ, ◌+◌, ◌*◌, ◌≡◌, ◌≤◌, ◌<◌, ◌^◌, ◌⊎◌, ◌==◌, ◌||◌, if◌then◌else◌, List}
+use Rattle.std.specs.Prelude.{[], ◌∷◌, ◌++◌, length, map}
+use Rattle.std.specs.List.{flat_map, All, AllByRecursion, range_with_len}
 use Rattle.cine_nums.specs.declared.profile.Profile.{Profile}
 use Rattle.cine_nums.specs.declared.profile.Profile.TheVariants.{TwoK, FourK}
 use Rattle.cine_nums.specs.Profile.{levels_of, parts_of, max_width_of, max_height_of}
 use Rattle.dz_quantiser.specs.Bands.{planes_of}
 use Rattle.dz_quantiser.specs.declared.band.BandStep.{BandStep}
+use Rattle.dz_quantiser.specs.declared.steps.StepSizes.{StepSizes}
 use Rattle.cinema_markers.specs.Fields.{segment}
 use Rattle.cinema_markers.specs.MainHeader.{soc, rsiz, component, cod, qcd, poc}
 use Rattle.cine_nums.specs.Profile.{least_levels_of, is_four_k}
@@ -15,7 +18,7 @@ use Rattle.cinema_markers.specs.declared.fields.Field.TheVariants.{Byte, Short, 
 use Rattle.cinema_markers.specs.declared.header.MainHeader.{MainHeader}
 use Rattle.cinema_markers.specs.declared.header.MainRead.{MainRead}
 
--- a segment behind SIZ, and what the header's value leaves open of it
+-- a segment after SIZ, and what the header's value leaves open of it
 pub data MainSegment : Type 0 where
   coding : MainSegment
   quantisation : MainSegment
@@ -24,7 +27,7 @@ pub data MainSegment : Type 0 where
   lengths : ℕ → ℕ → MainSegment
   comment : List ℕ → MainSegment
 
--- the sides of the tile, and the segments behind SIZ, the last one first
+-- the sides of the tile, and the segments after SIZ, the last one first
 pub record MainWords : Type 0 where
   pub tile_width : ℕ
   pub tile_height : ℕ
@@ -46,7 +49,8 @@ entry_with stlm size =
 
 abbrev pub tlm_with : List ℕ → ℕ → ℕ → List Field
 tlm_with parts ztlm stlm =
-    Short 0xFF55 ∷ Short (4 + entry_size stlm * length parts) ∷ Byte ztlm ∷ Byte stlm ∷ flat_map (entry_with stlm) parts
+    Short 0xFF55 ∷ Short (4 + entry_size stlm * length parts) ∷ Byte ztlm ∷ Byte stlm
+    ∷ flat_map (entry_with stlm) parts
 
 abbrev pub com_head : List ℕ → List Field
 com_head content = Short 0xFF64 ∷ Short (2 + length content) ∷ []
@@ -61,7 +65,8 @@ spelled_segment m (comment content) = segment (com_head content) ++ content
 
 -- the bytes up to the end of the first of these segments
 abbrev pub spelled_upto : MainHeader → MainWords → List MainSegment → List ℕ
-spelled_upto m words [] = segment soc ++ segment (siz_with m.profile m.width m.height words.tile_width words.tile_height)
+spelled_upto m words [] = segment soc
+    ++ segment (siz_with m.profile m.width m.height words.tile_width words.tile_height)
 spelled_upto m words (s ∷ before) = spelled_upto m words before ++ spelled_segment m s
 
 abbrev pub main_words : MainHeader → MainWords → List ℕ
@@ -77,13 +82,15 @@ marker_of (comment content) = 0xFF64
 
 abbrev pub count_of : ℕ → List MainSegment → ℕ
 count_of marker [] = 0
-count_of marker (s ∷ segments) = if marker_of s == marker then 1 + count_of marker segments else count_of marker segments
+count_of marker (s ∷ segments) =
+    if marker_of s == marker then 1 + count_of marker segments else count_of marker segments
 
 -- the places of the lengths of the tile-parts
 abbrev pub places_upto : MainHeader → MainWords → List MainSegment → List ℕ
 places_upto m words [] = []
 places_upto m words (lengths ztlm stlm ∷ before) =
-    map (λ i. entry_place (length (spelled_upto m words before)) stlm i + index_size stlm) (range_with_len 0 (length m.parts.items))
+    map (λ i. entry_place (length (spelled_upto m words before)) stlm i + index_size stlm)
+    (range_with_len 0 (length m.parts.items))
 places_upto m words (coding ∷ before) = places_upto m words before
 places_upto m words (quantisation ∷ before) = places_upto m words before
 places_upto m words (progression ∷ before) = places_upto m words before
@@ -104,7 +111,7 @@ pub record IsStep (guard : ℕ) (step : BandStep) : Type 0 where
   pub mantissa : step.mantissa < 2048
   pub planes : 1 ≤ planes_of guard step.exponent
 
--- what a header may tell, and in which words
+-- what a header may say, and in which words
 pub record MainFits (m : MainHeader) (words : MainWords) : Type 0 where
   pub some_width : 1 ≤ m.width
   pub width : m.width ≤ max_width_of m.profile
@@ -136,13 +143,22 @@ pub record HasMain (bytes : List ℕ) (read : MainRead) : Type 0 where
   pub places : read.parts_at.items ≡ places_upto read.main words words.segments
   pub length_is : read.bytes ≡ length (main_words read.main words)
 
+-- each band has a magnitude bit-plane
+abbrev pub HasPlanes : StepSizes → Type 0
+HasPlanes steps = All (λ step. 1 ≤ planes_of steps.guard step.exponent) steps.bands.items
+
 -- the words of the writer
 abbrev pub written_segments : Profile → List MainSegment
 written_segments TwoK = lengths 0 0x50 ∷ quantisation ∷ coding ∷ []
 written_segments FourK = lengths 0 0x50 ∷ progression ∷ quantisation ∷ coding ∷ []
 
 abbrev pub written_words : MainHeader → MainWords
-written_words m = record { tile_width = m.width; tile_height = m.height; segments = written_segments m.profile }
+written_words m = record {
+  tile_width = m.width;
+  tile_height = m.height;
+  segments =
+      written_segments m.profile;
+}
 
 -- what is read of a header as it is written
 abbrev pub read_of : MainHeader → MainRead

@@ -2,7 +2,8 @@
 ghost use Rattle.std.specs.Prelude.{◌≡◌, ◌+◌, ◌≤◌, ◌<◌, ◌^◌, ◌++◌, length, slice_index, IfNone};
 ghost use Rattle.cine_nums.specs.Bytes.{word_at};
 ghost use Rattle.cine_nums.specs.Faults.{first_fault};
-ghost use Rattle.cinema_markers.specs.Tables.{cod_rows, cod_style_rows, cod_order_rows, cod_block_rows, precinct_row, precinct_rows};
+ghost use Rattle.cinema_markers.specs.Tables.{cod_rows, cod_style_rows, cod_order_rows};
+ghost use Rattle.cinema_markers.specs.Tables.{cod_block_rows, precinct_row, precinct_rows};
 
 use crate::refusal::MarkerRefusal;
 use cine_nums::{BLOCK_EXPONENT, PROGRESSION, Profile, precinct_byte, word_at};
@@ -70,7 +71,8 @@ fn cod_block_fault(bytes: &[u8], at: u32) -> Option<MarkerRefusal>
     requires places { length bytes.now < 2 ^ 32 }
     requires inside { at + 14 ≤ length bytes.now }
     ensures value { result ≡ first_fault (cod_block_rows bytes.now at) }
-    ensures long { IfNone result (word_at bytes.now (at + 2) ≡ 13 + slice_index bytes.now (at + 9)) }
+    ensures long { IfNone result
+        (word_at bytes.now (at + 2) ≡ 13 + slice_index bytes.now (at + 9)) }
 {
     let place = at as usize;
     if bytes[place + 10] != BLOCK_EXPONENT {
@@ -95,13 +97,14 @@ fn cod_block_fault(bytes: &[u8], at: u32) -> Option<MarkerRefusal>
 }
 
 /// The fields of COD at a place, up to the sizes of precincts.
-#[tactic(auto, using(cine_nums::proofs::FaultLemmas::passed_on, cine_nums::proofs::FaultLemmas::decided), unfolding(crate::specs::Tables::cod_rows))]
+#[tactic(auto, using(crate::proofs::RowRules::tables), unfolding(crate::specs::Tables::cod_rows))]
 fn cod_fault(bytes: &[u8], at: u32, profile: Profile) -> Option<MarkerRefusal>
     requires places { length bytes.now < 2 ^ 32 }
     requires inside { at + 2 + word_at bytes.now (at + 2) ≤ length bytes.now }
     requires room { at + 4 ≤ length bytes.now }
     ensures value { result ≡ first_fault (cod_rows profile bytes.now at) }
-    ensures long { IfNone result (word_at bytes.now (at + 2) ≡ 13 + slice_index bytes.now (at + 9)) }
+    ensures long { IfNone result
+        (word_at bytes.now (at + 2) ≡ 13 + slice_index bytes.now (at + 9)) }
 {
     if let Some(fault) = cod_style_fault(bytes, at) {
         return Some(fault);
@@ -113,7 +116,7 @@ fn cod_fault(bytes: &[u8], at: u32, profile: Profile) -> Option<MarkerRefusal>
 }
 
 /// The sizes of precincts of COD at a place.
-#[tactic(auto, using(cine_nums::proofs::FaultLemmas::row_applies, cine_nums::proofs::FaultLemmas::row_passed, cine_nums::proofs::FaultLemmas::no_more_rows, cine_nums::proofs::FaultLemmas::all_rows), unfolding(crate::specs::Tables::precinct_rows))]
+#[tactic(auto, using(crate::proofs::RowRules::ranges), unfolding(crate::specs::Tables::precinct_rows))]
 fn precinct_fault(bytes: &[u8], at: u32) -> Option<MarkerRefusal>
     requires places { length bytes.now < 2 ^ 32 }
     requires inside { at + (15 + slice_index bytes.now (at + 9)) ≤ length bytes.now }
@@ -130,12 +133,13 @@ fn precinct_fault(bytes: &[u8], at: u32) -> Option<MarkerRefusal>
 }
 
 /// All of COD at a place.
-#[tactic(auto, using(cine_nums::proofs::FaultLemmas::passed_on, cine_nums::proofs::FaultLemmas::decided))]
+#[tactic(auto, using(crate::proofs::RowRules::tables))]
 pub fn whole_cod_fault(bytes: &[u8], at: u32, profile: Profile) -> Option<MarkerRefusal>
     requires places { length bytes.now < 2 ^ 32 }
     requires inside { at + 2 + word_at bytes.now (at + 2) ≤ length bytes.now }
     requires room { at + 4 ≤ length bytes.now }
-    ensures value { result ≡ first_fault (cod_rows profile bytes.now at ++ precinct_rows bytes.now at) }
+    ensures value { result ≡ first_fault
+        (cod_rows profile bytes.now at ++ precinct_rows bytes.now at) }
     ensures long { IfNone result (12 ≤ word_at bytes.now (at + 2)) }
 {
     match cod_fault(bytes, at, profile) {

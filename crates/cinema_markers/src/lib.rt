@@ -1,8 +1,8 @@
 //! The main header of a codestream of the two digital cinema profiles (ISO/IEC 15444-1, Annex A):
 //! the marker segments SOC, SIZ, COD, QCD, for the 4K profile POC, and TLM, in this order.
 //!
-//! The contract of [`main_bytes`] gives the exact bytes and their number. It takes no memory and refuses
-//! nothing.
+//! The contract of [`main_bytes`] gives the exact bytes and their number. It takes no memory and
+//! refuses nothing.
 //!
 //! ```
 //! let header = MainHeader {

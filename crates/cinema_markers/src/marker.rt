@@ -4,7 +4,8 @@ ghost use Rattle.std.specs.Option.{unwrap_or};
 ghost use Rattle.cine_nums.specs.Bytes.{word_at};
 ghost use Rattle.cine_nums.specs.Faults.{first_fault};
 ghost use Rattle.cine_nums.specs.Profile.{is_four_k};
-ghost use Rattle.cinema_markers.specs.Tables.{soc_rows, feature_of, is_allowed, profile_at, marker_rows, missing_rows, room_rows, field_rows};
+ghost use Rattle.cinema_markers.specs.Tables.{soc_rows, feature_of, is_allowed, profile_at};
+ghost use Rattle.cinema_markers.specs.Tables.{marker_rows, missing_rows, room_rows, field_rows};
 
 use crate::cod::whole_cod_fault;
 use crate::found::Found;
@@ -82,7 +83,7 @@ fn is_allowed(marker: u16) -> bool
         || marker == 0xFF90
 }
 
-/// The marker at a place, behind the segments that were found.
+/// The marker at a place, after the segments that were found.
 #[tactic(auto, unfolding(crate::specs::Tables::marker_rows))]
 pub fn marker_fault(bytes: &[u8], found: Found, at: u32) -> Option<MarkerRefusal>
     requires places { length bytes.now < 2 ^ 32 }
@@ -134,7 +135,8 @@ pub fn missing_fault(bytes: &[u8], found: Found, at: u32) -> Option<MarkerRefusa
     ensures value { result ≡ first_fault (missing_rows bytes.now found at) }
     ensures cod { IfNone result (IsSome found.cod) }
     ensures qcd { IfNone result (IsSome found.qcd) }
-    ensures poc { IfNone result (IsTrue (is_four_k (profile_at bytes.now found.siz)) → IsSome found.poc) }
+    ensures poc { IfNone result (IsTrue (is_four_k (profile_at bytes.now found.siz)) →
+        IsSome found.poc) }
 {
     if found.cod.is_none() {
         return Some(MarkerRefusal::Missing(at, 0xFF52));

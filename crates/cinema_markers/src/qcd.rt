@@ -35,14 +35,14 @@ pub fn qcd_fault(bytes: &[u8], at: u32) -> Option<MarkerRefusal>
 
 /// Whether a band with this exponent has no plane.
 fn has_no_plane(guard: u32, exponent: u32) -> bool
-    requires small { guard + exponent < 256 }
+    requires small { exponent + guard < 256 }
     ensures { result ≡ (planes_of guard exponent == 0) }
 {
     guard + exponent < 2
 }
 
 /// The planes of the bands of QCD at a place, and its length.
-#[tactic(auto, using(cine_nums::proofs::FaultLemmas::row_applies, cine_nums::proofs::FaultLemmas::row_passed, cine_nums::proofs::FaultLemmas::no_more_rows, cine_nums::proofs::FaultLemmas::all_rows), unfolding(crate::specs::Tables::bands_rows))]
+#[tactic(auto, using(crate::proofs::RowRules::ranges), unfolding(crate::specs::Tables::bands_rows))]
 pub fn bands_fault(bytes: &[u8], levels: u8, qcd: u32) -> Option<MarkerRefusal>
     requires places { length bytes.now < 2 ^ 32 }
     requires whole { IsWhole bytes.now 5 qcd }

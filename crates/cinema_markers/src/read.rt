@@ -1,9 +1,12 @@
 // Reading a main header.
-ghost use Rattle.std.specs.Prelude.{◌≡◌, ◌+◌, ◌≤◌, ◌<◌, ◌^◌, ℕ, Ok, Err, List, length, Option, None, Some, IfOk, IfErr, IfNone, IfSome, MatchResult, MatchOption};
+ghost use Rattle.std.specs.Prelude.{◌≡◌, ◌+◌, ◌≤◌, ◌<◌, ◌^◌, ℕ, Ok, Err, List, length, Option};
+ghost use Rattle.std.specs.Prelude.{None, Some, IfOk, IfErr, IfNone, IfSome, MatchResult};
+ghost use Rattle.std.specs.Prelude.{MatchOption};
 ghost use Rattle.cine_nums.specs.Bytes.{word_at};
 ghost use Rattle.cine_nums.specs.Faults.{first_fault};
 ghost use Rattle.cinema_markers.specs.Tables.{next_rows, noted, end_rows};
-ghost use Rattle.cinema_markers.specs.Reading.{AreWhole, EndsAt, HasFault, IsEnd, IsReadable, Passed};
+ghost use Rattle.cinema_markers.specs.Reading.{AreWhole, EndsAt, HasFault, IsEnd, IsReadable};
+ghost use Rattle.cinema_markers.specs.Reading.{Passed};
 ghost use Rattle.cinema_markers.specs.Value.{IsRead};
 ghost use Rattle.cinema_markers.specs.Words.{HasMain};
 ghost use Rattle.cinema_markers.specs.declared.header.MainRead.{MainRead};
@@ -21,7 +24,7 @@ use crate::value::main_at;
 use cine_nums::word_at;
 
 /// What is judged where SOT stands.
-#[tactic(auto, using(cine_nums::proofs::FaultLemmas::passed_on, cine_nums::proofs::FaultLemmas::decided), unfolding(crate::specs::Tables::end_rows))]
+#[tactic(auto, using(crate::proofs::RowRules::tables), unfolding(crate::specs::Tables::end_rows))]
 fn end_fault(bytes: &[u8], found: Found, at: u32) -> Option<MarkerRefusal>
     requires places { length bytes.now < 2 ^ 32 }
     requires whole { AreWhole bytes.now found }
@@ -56,15 +59,17 @@ fn noted(found: Found, marker: u16, at: u32) -> Found
     noted
 }
 
-/// What stands at a place behind the segments that were found: SOT, or a segment, and the place behind it.
-#[tactic(auto, using(cine_nums::proofs::FaultLemmas::passed_on, cine_nums::proofs::FaultLemmas::decided), unfolding(crate::specs::Tables::next_rows))]
+/// What stands at a place after the segments that were found: SOT, or a segment, and the place
+/// after it.
+#[tactic(auto, using(crate::proofs::RowRules::tables), unfolding(crate::specs::Tables::next_rows))]
 fn next(bytes: &[u8], found: Found, at: u32) -> Result<Option<u32>, MarkerRefusal>
     requires places { length bytes.now < 2 ^ 32 }
     requires whole { AreWhole bytes.now found }
     ensures fault { IfErr result (λ e. first_fault (next_rows bytes.now found at) ≡ Some e) }
     ensures end { IfOk result (λ o. IfNone o (IsEnd bytes.now found at)) }
     ensures next { IfOk result (λ o. IfSome o (Passed bytes.now found at)) }
-    ensures whole { IfOk result (λ o. IfSome o (λ to. AreWhole bytes.now (noted found (word_at bytes.now at) at))) }
+    ensures whole { IfOk result (λ o. IfSome o (λ to.
+        AreWhole bytes.now (noted found (word_at bytes.now at) at))) }
     ensures inside { IfOk result (λ o. IfSome o (λ to. to ≤ length bytes.now)) }
     ensures on { IfOk result (λ o. IfSome o (λ to. at < to)) }
 {
@@ -89,18 +94,18 @@ fn next(bytes: &[u8], found: Found, at: u32) -> Result<Option<u32>, MarkerRefusa
 /// Reads a main header (ISO/IEC 15444-1, Annex A), which begins at the first byte and ends where a
 /// marker SOT stands in a marker's place.
 ///
-/// After SOC and SIZ the segments COD, QCD, TLM, and for 4K POC, stand once each and in any order, and
-/// any number of COM between them. Levels are 0 to 5 for 2K and 1 to 6 for 4K, the tile may be larger
-/// than the frame, and TLM has any of its four layouts. The bytes are fewer than 2^32.
+/// After SOC and SIZ the segments COD, QCD, TLM, and for 4K POC, stand once each and in any order,
+/// and any number of COM between them. Levels are 0 to 5 for 2K and 1 to 6 for 4K, the tile may be
+/// larger than the frame, and TLM has any of its four layouts. The bytes are fewer than 2^32.
 ///
-/// Refused is the first fault in the order of reading. Of a marker: `SegmentTruncated` where the bytes
-/// end inside it, `UnexpectedMarker` where the first one after SOC is not SIZ, `OutsideProfile` of
-/// COC, QCC, RGN, PPM, PLM and CRG (features 1 to 6), `UnexpectedMarker` of any other that is none of
-/// SIZ, COD, QCD, POC, TLM, COM and SOT, and of POC in 2K, `Repeated`. Of its segment:
-/// `SegmentTruncated` where the bytes end inside it or its length is below 2, and then its fields, in
-/// the order of the tables of `specs/Tables.antt`. At SOT: `Missing`, `BadQcd` where the steps don't
-/// fit the levels or a band has no magnitude bit-plane, `BadPoc` where the changes are not those of
-/// the profile.
+/// Refused is the first fault in the order of reading. Of a marker: `SegmentTruncated` where the
+/// bytes end inside it, `UnexpectedMarker` where the first one after SOC is not SIZ,
+/// `OutsideProfile` of COC, QCC, RGN, PPM, PLM and CRG (features 1 to 6), `UnexpectedMarker` of any
+/// other that is none of SIZ, COD, QCD, POC, TLM, COM and SOT, and of POC in 2K, `Repeated`. Of its
+/// segment: `SegmentTruncated` where the bytes end inside it or its length is below 2, and then its
+/// fields, in the order of the tables of `specs/Tables.antt`. At SOT: `Missing`, `BadQcd` where the
+/// steps don't fit the levels or a band has no magnitude bit-plane, `BadPoc` where the changes are
+/// not those of the profile.
 pub fn read_main(bytes: &[u8]) -> Result<MainRead, MarkerRefusal>
     requires { length bytes.now < 2 ^ 32 }
     // A header is returned exactly where the bytes begin with one, and it is the only one.

@@ -3,7 +3,8 @@ ghost use Rattle.std.specs.Prelude.{◌≡◌, ◌++◌, ◌+◌, ◌*◌, ◌�
 ghost use Rattle.std.specs.List.{All};
 ghost use Rattle.arrayvec.specs.ArrayVec.{array_vec_len};
 ghost use Rattle.cinema_markers.specs.Fields.{segment};
-ghost use Rattle.cinema_markers.specs.MainHeader.{rsiz, soc, siz, precinct_sizes, cod, step_field, qcd, poc, tlm};
+ghost use Rattle.cinema_markers.specs.MainHeader.{rsiz, soc, siz, precinct_sizes, cod, step_field};
+ghost use Rattle.cinema_markers.specs.MainHeader.{qcd, poc, tlm};
 
 use crate::fields::{Field, push_fields};
 use arrayvec::ArrayVec;
@@ -36,7 +37,8 @@ fn rsiz(profile: Profile) -> u16
 /// Appends the start of codestream, and image and tile size in samples.
 pub fn push_siz(out: &mut ArrayVec<u8, 192>, profile: Profile, width: u32, height: u32)
     requires { array_vec_len out.old ≤ 100 }
-    ensures items { out.new.items ≡ out.old.items ++ segment soc ++ segment (siz profile width height) }
+    ensures items { out.new.items
+        ≡ out.old.items ++ segment soc ++ segment (siz profile width height) }
     ensures len { array_vec_len out.new ≡ array_vec_len out.old + 51 }
 {
     push_fields(out, &[Field::Short(SOC)]);
@@ -71,7 +73,8 @@ pub fn push_siz(out: &mut ArrayVec<u8, 192>, profile: Profile, width: u32, heigh
     );
 }
 
-/// Appends the sizes of precincts: a byte for resolution 0 and one for the resolution above each level.
+/// Appends the sizes of precincts: a byte for resolution 0 and one for the resolution above each
+/// level.
 fn push_precinct_sizes(out: &mut ArrayVec<u8, 192>, levels: u8)
     requires room { array_vec_len out.old ≤ 150 }
     requires levels { levels ≤ 6 }
@@ -145,8 +148,8 @@ pub fn push_qcd(out: &mut ArrayVec<u8, 192>, levels: u8, steps: &StepSizes)
     }
 }
 
-/// Appends the changes of the progression order of the 4K profile: the packets of the resolutions of a 2K
-/// frame first, and those of the highest one behind them. The 2K profile has none.
+/// Appends the changes of the progression order of the 4K profile: the packets of the resolutions
+/// of a 2K frame first, and those of the highest one after them. The 2K profile has none.
 pub fn push_poc(out: &mut ArrayVec<u8, 192>, profile: Profile, levels: u8)
     requires room { array_vec_len out.old ≤ 120 }
     requires levels { levels ≤ 6 }

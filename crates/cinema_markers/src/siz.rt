@@ -4,7 +4,8 @@ ghost use Rattle.std.specs.Option.{unwrap_or};
 ghost use Rattle.cine_nums.specs.Bytes.{word_at};
 ghost use Rattle.cine_nums.specs.Faults.{first_fault};
 ghost use Rattle.cine_nums.specs.Profile.{is_four_k};
-ghost use Rattle.cinema_markers.specs.Tables.{profile_with, profile_at, siz_rows, siz_size_rows, siz_place_rows, siz_component_rows};
+ghost use Rattle.cinema_markers.specs.Tables.{profile_with, profile_at, siz_rows, siz_size_rows};
+ghost use Rattle.cinema_markers.specs.Tables.{siz_place_rows, siz_component_rows};
 
 use crate::refusal::MarkerRefusal;
 use cine_nums::{Profile, long_at, word_at};
@@ -145,7 +146,7 @@ fn siz_component_fault(bytes: &[u8], at: u32) -> Option<MarkerRefusal>
 }
 
 /// The fields of SIZ at a place.
-#[tactic(auto, using(cine_nums::proofs::FaultLemmas::passed_on, cine_nums::proofs::FaultLemmas::decided), unfolding(crate::specs::Tables::siz_rows))]
+#[tactic(auto, using(crate::proofs::RowRules::tables), unfolding(crate::specs::Tables::siz_rows))]
 pub fn siz_fault(bytes: &[u8], at: u32) -> Option<MarkerRefusal>
     requires places { length bytes.now < 2 ^ 32 }
     requires inside { at + 2 + word_at bytes.now (at + 2) ≤ length bytes.now }

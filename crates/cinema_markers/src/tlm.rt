@@ -1,9 +1,11 @@
 // What is judged of TLM.
-ghost use Rattle.std.specs.Prelude.{◌≡◌, ◌+◌, ◌*◌, ◌≤◌, ◌<◌, ◌^◌, ◌++◌, length, slice_index, IfNone};
+ghost use Rattle.std.specs.Prelude.{◌≡◌, ◌+◌, ◌*◌, ◌≤◌, ◌<◌, ◌^◌, ◌++◌, length, slice_index};
+ghost use Rattle.std.specs.Prelude.{IfNone};
 ghost use Rattle.cine_nums.specs.Bytes.{word_at};
 ghost use Rattle.cine_nums.specs.Faults.{first_fault};
 ghost use Rattle.cine_nums.specs.Profile.{parts_of};
-ghost use Rattle.cinema_markers.specs.Tables.{tlm_rows, tile_row, tile_rows, entry_place, index_size, length_size, entry_size, index_at};
+ghost use Rattle.cinema_markers.specs.Tables.{tlm_rows, tile_row, tile_rows, entry_place};
+ghost use Rattle.cinema_markers.specs.Tables.{index_size, length_size, entry_size, index_at};
 
 use crate::refusal::MarkerRefusal;
 use cine_nums::{Profile, word_at};
@@ -29,7 +31,8 @@ fn tlm_fault(bytes: &[u8], at: u32, profile: Profile) -> Option<MarkerRefusal>
     requires inside { at + 2 + word_at bytes.now (at + 2) ≤ length bytes.now }
     requires room { at + 4 ≤ length bytes.now }
     ensures value { result ≡ first_fault (tlm_rows profile bytes.now at) }
-    ensures long { IfNone result (word_at bytes.now (at + 2) ≡ 4 + parts_of profile * entry_size (slice_index bytes.now (at + 5))) }
+    ensures long { IfNone result (word_at bytes.now (at + 2)
+        ≡ 4 + parts_of profile * entry_size (slice_index bytes.now (at + 5))) }
 {
     let place = at as usize;
     let length = word_at(bytes, place + 2);
@@ -71,10 +74,11 @@ pub fn entry_place(at: u32, stlm: u8, i: u32) -> u32
 }
 
 /// The indexes of tiles of TLM at a place.
-#[tactic(auto, using(cine_nums::proofs::FaultLemmas::row_applies, cine_nums::proofs::FaultLemmas::row_passed, cine_nums::proofs::FaultLemmas::no_more_rows, cine_nums::proofs::FaultLemmas::all_rows), unfolding(crate::specs::Tables::tile_rows))]
+#[tactic(auto, using(crate::proofs::RowRules::ranges), unfolding(crate::specs::Tables::tile_rows))]
 fn tile_fault(bytes: &[u8], at: u32, profile: Profile) -> Option<MarkerRefusal>
     requires places { length bytes.now < 2 ^ 32 }
-    requires inside { at + (6 + parts_of profile * entry_size (slice_index bytes.now (at + 5))) ≤ length bytes.now }
+    requires inside { at + (6 + parts_of profile * entry_size (slice_index bytes.now (at + 5)))
+        ≤ length bytes.now }
     ensures { result ≡ first_fault (tile_rows profile bytes.now at) }
 {
     let stlm = bytes[at as usize + 5];
@@ -89,12 +93,13 @@ fn tile_fault(bytes: &[u8], at: u32, profile: Profile) -> Option<MarkerRefusal>
 }
 
 /// All of TLM at a place.
-#[tactic(auto, using(cine_nums::proofs::FaultLemmas::passed_on, cine_nums::proofs::FaultLemmas::decided))]
+#[tactic(auto, using(crate::proofs::RowRules::tables))]
 pub fn whole_tlm_fault(bytes: &[u8], at: u32, profile: Profile) -> Option<MarkerRefusal>
     requires places { length bytes.now < 2 ^ 32 }
     requires inside { at + 2 + word_at bytes.now (at + 2) ≤ length bytes.now }
     requires room { at + 4 ≤ length bytes.now }
-    ensures value { result ≡ first_fault (tlm_rows profile bytes.now at ++ tile_rows profile bytes.now at) }
+    ensures value { result ≡ first_fault
+        (tlm_rows profile bytes.now at ++ tile_rows profile bytes.now at) }
 {
     match tlm_fault(bytes, at, profile) {
         Some(fault) => Some(fault),

@@ -59,7 +59,8 @@ fn part_place(bytes: &[u8], tlm: u32, i: u32) -> u32
     requires places { length bytes.now < 2 ^ 32 }
     requires few { i < 6 }
     requires head { tlm + 6 ≤ length bytes.now }
-    requires inside { tlm + (6 + (i + 1) * entry_size (slice_index bytes.now (tlm + 5))) ≤ length bytes.now }
+    requires inside { tlm + (6 + (i + 1) * entry_size (slice_index bytes.now (tlm + 5)))
+        ≤ length bytes.now }
     ensures value { result ≡ part_place bytes.now tlm i }
     ensures inside { result + length_size (slice_index bytes.now (tlm + 5)) ≤ length bytes.now }
 {
@@ -70,7 +71,8 @@ fn part_place(bytes: &[u8], tlm: u32, i: u32) -> u32
 /// The places of the lengths of TLM at the place `tlm`, in the order of the tile-parts.
 fn part_places(bytes: &[u8], tlm: u32, profile: Profile) -> ArrayVec<u32, 6>
     requires places { length bytes.now < 2 ^ 32 }
-    requires inside { tlm + (6 + parts_of profile * entry_size (slice_index bytes.now (tlm + 5))) ≤ length bytes.now }
+    requires inside { tlm + (6 + parts_of profile * entry_size (slice_index bytes.now (tlm + 5)))
+        ≤ length bytes.now }
     ensures { result.items ≡ map (part_place bytes.now tlm) (range_with_len 0 (parts_of profile)) }
 {
     let mut places = ArrayVec::new();
@@ -83,7 +85,8 @@ fn part_places(bytes: &[u8], tlm: u32, profile: Profile) -> ArrayVec<u32, 6>
 /// The lengths of TLM at the place `tlm`, in bytes, in the order of the tile-parts.
 fn part_lengths(bytes: &[u8], tlm: u32, profile: Profile) -> ArrayVec<u32, 6>
     requires places { length bytes.now < 2 ^ 32 }
-    requires inside { tlm + (6 + parts_of profile * entry_size (slice_index bytes.now (tlm + 5))) ≤ length bytes.now }
+    requires inside { tlm + (6 + parts_of profile * entry_size (slice_index bytes.now (tlm + 5)))
+        ≤ length bytes.now }
     ensures { result.items ≡ map (part_length bytes.now tlm) (range_with_len 0 (parts_of profile)) }
 {
     let stlm = bytes[tlm as usize + 5];

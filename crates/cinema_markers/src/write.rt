@@ -1,7 +1,7 @@
 // Writing a main header.
 ghost use Rattle.std.specs.Prelude.{◌≡◌, ◌+◌, ◌*◌, ◌≤◌, ◌<◌, ◌++◌, ◌∷◌, ℕ, List, length};
 ghost use Rattle.dz_quantiser.specs.Bands.{planes_of};
-ghost use Rattle.cinema_markers.specs.Words.{HasMain, read_of};
+ghost use Rattle.cinema_markers.specs.Words.{HasMain, HasPlanes, read_of};
 ghost use Rattle.std.specs.List.{All};
 ghost use Rattle.arrayvec.specs.ArrayVec.{array_vec_len};
 ghost use Rattle.cine_nums.specs.Profile.{levels_of, parts_of, max_width_of, max_height_of};
@@ -11,11 +11,12 @@ use crate::header::MainHeader;
 use crate::segments::{push_cod, push_poc, push_qcd, push_siz, push_tlm};
 use arrayvec::ArrayVec;
 
-/// The bytes of a main header: 129 of the 2K profile, 169 of the 4K profile. The places of the lengths of
-/// the tile-parts aren't looked at.
+/// The bytes of a main header: 129 of the 2K profile, 169 of the 4K profile. The places of the
+/// lengths of the tile-parts aren't looked at.
 ///
-/// The sizes are within the profile's, the levels and the number of tile-parts are the profile's, the flag
-/// is 1, and there is a step for each band: guard bits at most 7, exponents below 32, mantissas below 2,048.
+/// The sizes are within the profile's, the levels and the number of tile-parts are the profile's,
+/// the flag is 1, and there is a step for each band: guard bits at most 7, exponents below 32,
+/// mantissas below 2,048.
 pub fn main_bytes(m: &MainHeader) -> ArrayVec<u8, 192>
     requires some_width { 1 ≤ m.now.width }
     requires width { m.now.width ≤ max_width_of m.now.profile }
@@ -31,8 +32,8 @@ pub fn main_bytes(m: &MainHeader) -> ArrayVec<u8, 192>
     ensures bytes { result.items ≡ main_header_of m.now }
     ensures length { array_vec_len result ≡ main_length m.now.profile }
     // Where each band has a plane it is a main header that is read back, whatever follows SOT.
-    ensures spells { All (λ step. 1 ≤ planes_of m.now.steps.guard step.exponent) m.now.steps.bands.items →
-        (rest : List ℕ) → HasMain (result.items ++ 0xFF ∷ 0x90 ∷ rest) (read_of m.now) }
+    ensures spells { HasPlanes m.now.steps → (rest : List ℕ) →
+        HasMain (result.items ++ 0xFF ∷ 0x90 ∷ rest) (read_of m.now) }
 {
     let mut out = ArrayVec::new();
     push_siz(&mut out, m.profile, m.width, m.height);

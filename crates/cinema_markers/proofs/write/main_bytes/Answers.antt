@@ -9,11 +9,16 @@ written : goal.returns-clause-bytes
 unfolding main_header_of
 written c =
     let m = c.args.m.now in
-    two_and_four c.new-out.result.items (segment soc) (segment (siz m.profile m.width m.height)) (segment (cod m.levels m.flag))
-    (segment (qcd m.levels m.steps)) (segment (poc m.profile m.levels)) (segment (tlm m.parts.items))
-    c.push_siz.new.out.items c.push_cod.new.out.items c.push_qcd.new.out.items c.push_poc.new.out.items c.push_tlm.new.out.items
-    c.new-out.ensures c.push_siz.ensures.items c.push_cod.ensures.items c.push_qcd.ensures.items c.push_poc.ensures
-    (c.push_tlm.ensures.items ∙ ap (λ parts. c.push_poc.new.out.items ++ segment (tlm parts)) c.as_slice.ensures.value)
+    two_and_four c.new-out.result.items (segment soc) (segment (siz m.profile m.width m.height))
+    (segment (cod m.levels m.flag))
+    (segment (qcd m.levels m.steps)) (segment (poc m.profile m.levels))
+    (segment (tlm m.parts.items))
+    c.push_siz.new.out.items c.push_cod.new.out.items c.push_qcd.new.out.items
+    c.push_poc.new.out.items c.push_tlm.new.out.items
+    c.new-out.ensures c.push_siz.ensures.items c.push_cod.ensures.items c.push_qcd.ensures.items
+    c.push_poc.ensures
+    (c.push_tlm.ensures.items ∙ ap
+    (λ parts. c.push_poc.new.out.items ++ segment (tlm parts)) c.as_slice.ensures.value)
 
 pub returns-clause-spells : goal.returns-clause-spells
 returns-clause-spells c = λ planes rest.
