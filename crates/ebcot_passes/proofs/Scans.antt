@@ -1,0 +1,266 @@
+-- The scan, column by column.
+use Rattle.std.proofs.Common.{ℕ, zero, suc, ◌+◌, ◌*◌, ◌/◌, ◌<◌, ◌≤◌, ◌≡◌, inl, inr, Bool}
+use Rattle.std.proofs.Common.{true, false, List, [], ◌∷◌, ◌++◌, length, get_or, take, map}
+use Rattle.std.proofs.Common.{refl, sym, ap, ◌∙◌, subst, arith, append_assoc, append-nil}
+use Rattle.std.proofs.Math.Nat.{mul-le-mul_right}
+use Rattle.std.proofs.Math.Seq.{take-length}
+use Rattle.std.proofs.lemmas.Bool.{cases_lt, lt-ltb, le-ltb}
+use Rattle.std.proofs.lemmas.List.{take_more, length-map, get_or-map}
+use Rattle.std.proofs.lemmas.Nat.{div-mul-add, mod-mul-add, mul-add-lt}
+use Rattle.mq_coder.specs.declared.encoder.Encoder.{Encoder}
+use Rattle.ebcot_contexts.specs.Cells.{Cell}
+use Rattle.ebcot_contexts.specs.Contexts.{Shape}
+use Rattle.ebcot_contexts.specs.Asks.{symbols, outcome}
+use Rattle.ebcot_contexts.specs.Passes.{Kind, column_from, column_at, counted, scan, column}
+use Rattle.ebcot_contexts.specs.Passes.{columns}
+use Rattle.ebcot_contexts.proofs.Loops.{column_symbols, column_outcome}
+use Rattle.ebcot_passes.specs.Coding.{IsRow, IsSplit, IsColumnAt, Holds, HoldsAfter}
+
+counted_length : (n c : ℕ) → length (counted n c) ≡ n
+counted_length zero c = refl
+counted_length (suc n) c = let e = counted_length n (suc c) in omega arith
+
+counted_at : (n c i : ℕ) → i < n → get_or (counted n c) i 0 ≡ c + i
+counted_at zero c i h = absurd (omega arith)
+counted_at (suc n) c zero h = omega arith
+counted_at (suc n) c (suc i) h = counted_at n (suc c) i (omega arith) ∙ omega arith
+
+pub scan_length : (w h : ℕ) → length (scan w h) ≡ w * ((h + 3) / 4)
+unfolding scan
+scan_length w h = length-map (counted (w * ((h + 3) / 4)) 0) (column_at w h)
+    ∙ counted_length (w * ((h + 3) / 4)) 0
+
+-- the column at x of stripe t
+pub scan_at : (w h t x : ℕ) → x < w → t * w + x < w * ((h + 3) / 4) →
+    get_or (scan w h) (t * w + x) [] ≡ column_from 4 w h x (4 * t)
+unfolding scan
+scan_at w h t x within inside =
+    let n : ℕ = w * ((h + 3) / 4) in
+    let long = counted_length n 0 in
+    let at : get_or (map (column_at w h) (counted n 0)) (t * w + x) []
+    ≡ column_at w h (get_or (counted n 0) (t * w + x) 0) =
+    get_or-map (column_at w h) (counted n 0) (t * w + x) 0 [] (omega arith) in
+    let is : get_or (counted n 0) (t * w + x) 0 ≡ t * w + x = counted_at n 0 (t * w + x) inside
+    ∙ omega arith in
+    at ∙ (ap (column_at w h) is
+    ∙ (ap (λ (v : ℕ). column_from 4 w h v (4 * ((t * w + x) / w))) (mod-mul-add t w x within)
+    ∙ ap (λ (v : ℕ). column_from 4 w h x (4 * v)) (div-mul-add t w x within)))
+
+row_inside : (k w h x y : ℕ) → y < h →
+    column_from (suc k) w h x y ≡ (y * w + x) ∷ column_from k w h x (suc y)
+row_inside k w h x y l =
+    ap (λ (t : Bool). elim t as (λ v. List ℕ) [
+      | true ↦ (y * w + x)
+          ∷ column_from k w h x (suc y)
+      | false ↦ []
+    ]) (lt-ltb y h l)
+
+row_outside : (k w h x y : ℕ) → h ≤ y → column_from (suc k) w h x y ≡ []
+row_outside k w h x y l =
+    ap (λ (t : Bool). elim t as (λ v. List ℕ) [
+      | true ↦ (y * w + x)
+          ∷ column_from k w h x (suc y)
+      | false ↦ []
+    ]) (le-ltb y h l)
+
+beyond : (w h x y : ℕ) → h ≤ y → w * h ≤ y * w + x
+beyond w h x y l = let m : h * w ≤ y * w = mul-le-mul_right w l in omega arith
+
+place_row : (w x t r : ℕ) → x < w → x < 32 → t < 8 → r < 4
+    → IsRow w ((4 * t + r) * w + x) (suc x) (suc t) r (34 * suc t + suc x) (128 * t + x)
+place_row w x t r within few low row =
+    let d = div-mul-add (4 * t + r) w x within in
+    let m = mod-mul-add (4 * t + r) w x within in
+    record {
+      place = record { column_is = ap suc (sym m); row_is = omega arith };
+      index = refl;
+      some = omega arith;
+      few = omega arith;
+      last = omega arith;
+      grid = omega arith;
+    }
+
+split_at : (w h x y : ℕ) → y < h
+    → IsSplit (w * h) (column_from 4 w h x y) (y * w + x) (suc y * w + x) (suc (suc y) * w + x)
+    (suc (suc (suc y)) * w + x)
+split_at w h x y l =
+    let first = row_inside 3 w h x y l in
+    elim (cases_lt (suc y) h) [
+      | inl l1 ↦
+          let second = first ∙ ap (λ (is : List ℕ). (y * w + x) ∷ is)
+          (row_inside 2 w h x (suc y) l1) in
+          elim (cases_lt (suc (suc y)) h) [
+            | inl l2 ↦
+                let third = second ∙ ap (λ (is : List ℕ). (y * w + x) ∷ (suc y * w + x) ∷ is)
+                (row_inside 1 w h x (suc (suc y)) l2) in
+                elim (cases_lt (suc (suc (suc y))) h) [
+                  | inl l3 ↦ inl (third ∙ ap (λ (is : List ℕ). (y * w + x) ∷ (suc y * w + x)
+                      ∷ (suc (suc y) * w + x) ∷ is) (row_inside 0 w h x (suc (suc (suc y))) l3))
+                  | inr g3 ↦ inr (inl (
+                    beyond w h x (suc (suc (suc y))) g3,
+                    third ∙ ap (λ (is : List ℕ). (y * w + x) ∷ (suc y * w + x)
+                        ∷ (suc (suc y) * w + x) ∷ is) (row_outside 0 w h x
+                        (suc (suc (suc y))) g3),
+                  ))
+                ]
+            | inr g2 ↦ inr (inr (inl (
+              beyond w h x (suc (suc y)) g2,
+              beyond w h x
+                  (suc (suc (suc y))) (omega arith),
+              second ∙ ap (λ (is : List ℕ). (y * w + x) ∷ (suc y * w + x) ∷ is)
+                  (row_outside 1 w h x (suc (suc y)) g2),
+            )))
+          ]
+      | inr g1 ↦ inr (inr (inr (
+        beyond w h x (suc y) g1,
+        beyond w h x (suc (suc y))
+            (omega arith),
+        beyond w h x (suc (suc (suc y))) (omega arith),
+        first ∙ ap (λ (is : List ℕ). (y * w + x) ∷ is) (row_outside 2 w h x (suc y) g1),
+      )))
+    ]
+
+pub column_is : (w h t x : ℕ) → x < w → w ≤ 32 → t < 8 → 4 * t < h
+    → IsColumnAt w h (column_from 4 w h x (4 * t)) (suc x) (suc t) (34 * suc t + suc x)
+    (128 * t + x)
+column_is w h t x within few low inside =
+    let r0 : 4 * t + 0 ≡ 4 * t = omega arith in
+    let r1 : 4 * t + 1 ≡ suc (4 * t) = omega arith in
+    let r2 : 4 * t + 2 ≡ suc (suc (4 * t)) = omega arith in
+    let r3 : 4 * t + 3 ≡ suc (suc (suc (4 * t))) = omega arith in
+    record {
+      a = 4 * t * w + x;
+      b = suc (4 * t) * w + x;
+      c = suc (suc (4 * t)) * w + x;
+      d = suc (suc (suc (4 * t))) * w + x;
+      first = rw r0 at (place_row w x t 0 within (omega arith) low (omega arith));
+      second = rw r1 at (place_row w x t 1 within (omega arith) low (omega arith));
+      third = rw r2 at (place_row w x t 2 within (omega arith) low (omega arith));
+      fourth = rw r3 at (place_row w x t 3 within (omega arith) low (omega arith));
+      places = split_at w h x (4 * t) inside;
+    }
+
+-- one column more
+pub columns_on : (kind : Kind) (s : Shape) (p : ℕ) (coefs l : List (ℕ × Bool)) (cs : List (List ℕ))
+    (c : ℕ) (cells : List Cell) (words : List ℕ) (encoder : Encoder)
+    → c < length cs
+    → HoldsAfter coefs s p (column kind s p (get_or cs c [])
+    (outcome coefs (columns kind s p (take c cs) cells)))
+    (l ++ symbols coefs (columns kind s p (take c cs) cells)) words encoder
+    → HoldsAfter coefs s p (columns kind s p (take (c + 1) cs) cells) l words encoder
+columns_on kind s p coefs l cs c cells words encoder inside h =
+    let is : List ℕ = get_or cs c [] in
+    let t : List (List ℕ) = take c cs in
+    let last : List Cell = outcome coefs
+    (column kind s p is (outcome coefs (columns kind s p t cells))) in
+    let joined : Holds s p last (l
+    ++ (symbols coefs (columns kind s p t cells)
+    ++ symbols coefs (column kind s p is
+    (outcome coefs (columns kind s p t cells))))) words encoder =
+    subst (λ (k : List (ℕ × Bool)). Holds s p last k words encoder)
+    (append_assoc l (symbols coefs (columns kind s p t cells))
+    (symbols coefs (column kind s p is (outcome coefs (columns kind s p t cells))))) h in
+    let named : Holds s p last (l ++ symbols coefs
+    (columns kind s p (t ++ is ∷ []) cells)) words encoder =
+    subst (λ (k : List (ℕ × Bool)). Holds s p last (l ++ k) words encoder)
+    (sym (column_symbols coefs kind s p t is cells)) joined in
+    let whole : HoldsAfter coefs s p (columns kind s p (t ++ is ∷ []) cells) l words encoder =
+    subst (λ (known : List Cell). Holds s p known
+    (l ++ symbols coefs (columns kind s p (t ++ is ∷ []) cells)) words encoder)
+    (sym (column_outcome coefs kind s p t is cells)) named in
+    subst (λ (js : List (List ℕ)). HoldsAfter coefs s p (columns kind s p js cells) l words encoder)
+    (sym (take_more cs c [] inside)) whole
+
+-- one column more of stripe t
+stripe_on_own : (kind : Kind) (s : Shape) (p : ℕ) (coefs l : List (ℕ × Bool)) (t x : ℕ)
+    (cells : List Cell) (words : List ℕ) (encoder : Encoder)
+    → x < s.width → s.width ≤ 32 → t < 8 → 4 * t < s.height
+    → ((is : List ℕ) → IsColumnAt s.width s.height is (suc x) (suc t) (34 * t + 35 + x)
+    (128 * t + x)
+    → HoldsAfter coefs s p (column kind s p is
+    (outcome coefs (columns kind s p (take (t * s.width + x) (scan s.width s.height)) cells)))
+    (l ++ symbols coefs (columns kind s p
+    (take (t * s.width + x) (scan s.width s.height)) cells)) words encoder)
+    → HoldsAfter coefs s p (columns kind s p
+    (take (t * s.width + (x + 1)) (scan s.width s.height)) cells) l words encoder
+stripe_on_own kind s p coefs l t x cells words encoder within few low inside step =
+    let w : ℕ = s.width in
+    let h : ℕ = s.height in
+    let n : 34 * suc t + suc x ≡ 34 * t + 35 + x = omega arith in
+    let col = rw n at (column_is w h t x within few low inside) in
+    let row : t < (h + 3) / 4 = omega arith in
+    let room : t * w + x < w * ((h + 3) / 4) = mul-add-lt t w x ((h + 3) / 4) row within in
+    let long = scan_length w h in
+    let is : get_or (scan w h) (t * w + x) [] ≡ column_from 4 w h x (4 * t) =
+    scan_at w h t x within room in
+    let held = subst (λ (js : List ℕ). HoldsAfter coefs s p
+    (column kind s p js (outcome coefs (columns kind s p (take (t * w + x) (scan w h)) cells)))
+    (l ++ symbols coefs (columns kind s p (take (t * w + x) (scan w h)) cells)) words encoder)
+    (sym is) (step (column_from 4 w h x (4 * t)) col) in
+    let e : t * w + x + 1 ≡ t * w + (x + 1) = omega arith in
+    subst (λ (c : ℕ). HoldsAfter coefs s p
+    (columns kind s p (take c (scan w h)) cells) l words encoder) e
+    (columns_on kind s p coefs l (scan w h) (t * w + x) cells words encoder (omega arith) held)
+
+pub stripe_on : (kind : Kind) (s : Shape) (p : ℕ) (coefs l : List (ℕ × Bool)) (width t x : ℕ)
+    (cells : List Cell) (words : List ℕ) (encoder : Encoder)
+    → s.width ≡ width → x < width → width ≤ 32 → t < 8 → 4 * t < s.height
+    → ((is : List ℕ) → IsColumnAt s.width s.height is (suc x) (suc t) (34 * t + 35 + x)
+    (128 * t + x)
+    → HoldsAfter coefs s p (column kind s p is
+    (outcome coefs (columns kind s p (take (t * width + x) (scan s.width s.height)) cells)))
+    (l ++ symbols coefs (columns kind s p
+    (take (t * width + x) (scan s.width s.height)) cells)) words encoder)
+    → HoldsAfter coefs s p (columns kind s p
+    (take (t * width + (x + 1)) (scan s.width s.height)) cells) l words encoder
+stripe_on kind s p coefs l width t x cells words encoder e =
+    subst (λ (v : ℕ). x < v → v ≤ 32 → t < 8 → 4 * t < s.height
+    → ((is : List ℕ) → IsColumnAt s.width s.height is (suc x) (suc t) (34 * t + 35 + x)
+    (128 * t + x)
+    → HoldsAfter coefs s p (column kind s p is
+    (outcome coefs (columns kind s p (take (t * v + x) (scan s.width s.height)) cells)))
+    (l ++ symbols coefs (columns kind s p
+    (take (t * v + x) (scan s.width s.height)) cells)) words encoder)
+    → HoldsAfter coefs s p (columns kind s p
+    (take (t * v + (x + 1)) (scan s.width s.height)) cells) l words encoder) e
+    (stripe_on_own kind s p coefs l t x cells words encoder)
+
+-- the end of a stripe
+pub stripe_done : (kind : Kind) (s : Shape) (p : ℕ) (coefs l : List (ℕ × Bool)) (width t x : ℕ)
+    (cells : List Cell) (words : List ℕ) (encoder : Encoder)
+    → x ≡ width
+    → HoldsAfter coefs s p (columns kind s p
+    (take (t * width + x) (scan s.width s.height)) cells) l words encoder
+    → HoldsAfter coefs s p (columns kind s p
+    (take ((t + 1) * width) (scan s.width s.height)) cells) l words encoder
+stripe_done kind s p coefs l width t x cells words encoder e h =
+    let same : t * width + x ≡ (t + 1) * width = omega arith in
+    subst (λ (c : ℕ). HoldsAfter coefs s p
+    (columns kind s p (take c (scan s.width s.height)) cells) l words encoder) same h
+
+-- no column yet
+pub pass_begun : (kind : Kind) (s : Shape) (p : ℕ) (coefs l : List (ℕ × Bool)) (width : ℕ)
+    (cells : List Cell) (words : List ℕ) (encoder : Encoder)
+    → Holds s p cells l words encoder
+    → HoldsAfter coefs s p (columns kind s p
+    (take (0 * width) (scan s.width s.height)) cells) l words encoder
+pass_begun kind s p coefs l width cells words encoder h =
+    let none : 0 ≡ 0 * width = omega arith in
+    subst (λ (c : ℕ). HoldsAfter coefs s p
+    (columns kind s p (take c (scan s.width s.height)) cells) l words encoder) none
+    (subst (λ (k : List (ℕ × Bool)). Holds s p cells k words encoder) (sym (append-nil l)) h)
+
+-- all columns
+pub pass_done : (kind : Kind) (s : Shape) (p : ℕ) (coefs l : List (ℕ × Bool)) (width height t : ℕ)
+    (cells : List Cell) (words : List ℕ) (encoder : Encoder)
+    → s.width ≡ width → s.height ≡ height → t ≡ (height + 3) / 4
+    → HoldsAfter coefs s p (columns kind s p
+    (take (t * width) (scan s.width s.height)) cells) l words encoder
+    → HoldsAfter coefs s p (columns kind s p (scan s.width s.height) cells) l words encoder
+pass_done kind s p coefs l width height t cells words encoder wide high e h =
+    let long = scan_length s.width s.height in
+    let rows : t ≡ (s.height + 3) / 4 = e ∙ ap (λ (v : ℕ). (v + 3) / 4) (sym high) in
+    let whole : t * width ≡ length (scan s.width s.height) =
+    ap (λ (v : ℕ). t * v) (sym wide) ∙ (ap (λ (v : ℕ). v * s.width) rows ∙ (omega arith)) in
+    subst (λ (cs : List (List ℕ)). HoldsAfter coefs s p (columns kind s p cs cells) l words encoder)
+    (ap (λ (c : ℕ). take c (scan s.width s.height)) whole ∙ take-length (scan s.width s.height)) h

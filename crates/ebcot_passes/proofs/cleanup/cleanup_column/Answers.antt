@@ -1,0 +1,44 @@
+use Rattle.std.proofs.Common.{ℕ, refl, arith}
+use Rattle.ebcot_contexts.specs.Passes.{cleanup}
+use Rattle.ebcot_passes.proofs.Encoding.{then_on}
+use Rattle.ebcot_passes.proofs.Settling.{settled_visit}
+use Rattle.ebcot_passes.proofs.Cleanups.{head_settled, cleanup_holds}
+use Rattle.ebcot_passes.proofs.cleanup.cleanup_column.Goals as goal
+
+pub returns-clause-codes : goal.returns-clause-codes
+returns-clause-codes g = λ s at stripe is coefs l cells col contexts a settled h.
+    let p : ℕ = g.args.p in
+    let h0 = g.code_head-word.ensures.codes s at stripe col.a col.b col.c col.d coefs l cells
+    (record {
+      first = col.first;
+      second = col.second;
+      third = col.third;
+      fourth =
+          col.fourth;
+    }) a h in
+    let s0 = head_settled coefs s p col.a col.b col.c col.d cells settled in
+    let h1 = g.cleanup_row-first.ensures.codes s col.a at stripe coefs _ _ col.first contexts a
+    (s0 col.a) h0 in
+    let s1 = settled_visit coefs s p cleanup col.a _ s0 in
+    let h2 = g.cleanup_row-second.ensures.codes s col.b at stripe coefs _ _ col.second contexts a
+    (s1 col.b) h1 in
+    let s2 = settled_visit coefs s p cleanup col.b _ s1 in
+    let h3 = g.cleanup_row-third.ensures.codes s col.c at stripe coefs _ _ col.third contexts a
+    (s2 col.c) h2 in
+    let s3 = settled_visit coefs s p cleanup col.c _ s2 in
+    let h4 = g.cleanup_row-fourth.ensures.codes s col.d at stripe coefs _ _ col.fourth contexts a
+    (s3 col.d) h3 in
+    cleanup_holds coefs s p is col.a col.b col.c col.d cells l _ _ _ refl h.long col.places
+    (record { one = h1.long; two = h2.long; three = h3.long }) h4
+
+pub returns-clause-goes_on : goal.returns-clause-goes_on
+returns-clause-goes_on g =
+    then_on g.args.encoder.now g.cleanup_row-third.new.encoder g.cleanup_row-fourth.new.encoder 30 6 36 (omega arith)
+    (then_on g.args.encoder.now g.cleanup_row-second.new.encoder g.cleanup_row-third.new.encoder 24 6 30 (omega arith)
+    (then_on g.args.encoder.now g.cleanup_row-first.new.encoder g.cleanup_row-second.new.encoder 18 6 24 (omega arith)
+    (then_on g.args.encoder.now g.code_head-word.new.encoder g.cleanup_row-first.new.encoder 12 6 18
+    (omega arith)
+    g.code_head-word.ensures.goes_on g.cleanup_row-first.ensures.goes_on)
+    g.cleanup_row-second.ensures.goes_on)
+    g.cleanup_row-third.ensures.goes_on)
+    g.cleanup_row-fourth.ensures.goes_on

@@ -1,0 +1,51 @@
+use Rattle.std.proofs.Common.{ℕ, List, get_or, set, subst, arith}
+use Rattle.std.proofs.lemmas.List.{set-get_or}
+use Rattle.ebcot_contexts.specs.Passes.{refinement, each}
+use Rattle.ebcot_passes.specs.Coding.{HoldsAfter}
+use Rattle.ebcot_passes.proofs.Encoding.{then_on}
+use Rattle.ebcot_passes.proofs.Places.{own_word, own_held}
+use Rattle.ebcot_passes.proofs.ColumnLemmas.{none_coded, rows_hold, none_significant, unrefined}
+use Rattle.ebcot_passes.proofs.columns.refinement_column.Goals as goal
+
+pub returns-then-word-eq0-clause-codes : goal.returns-then-word-eq0-clause-codes
+returns-then-word-eq0-clause-codes c = λ s at stripe is coefs l cells col a h.
+    let p : ℕ = c.args.p in
+    let n : ℕ = c.args.n in
+    let words : List ℕ = c.args.words.now in
+    let word : ℕ = get_or words n 0 in
+    let none = none_significant word c.if-word-eq0.true in
+    let held = own_held s p n cells l words _ h in
+    subst (λ (ws : List ℕ). HoldsAfter coefs s p
+    (each refinement s p is cells) l ws c.args.encoder.now) (set-get_or words n 0)
+    (none_coded coefs s p refinement is col.a col.b col.c col.d cells l
+    (set words n word) _ col.places
+    (λ cs k hk. unrefined s p col.a at stripe 0 cs word (omega arith) col.first.place col.first.some
+    (own_word s.width p col.a at stripe 0 n c.args.j cs words word col.first hk.flags) none.0)
+    (λ cs k hk. unrefined s p col.b at stripe 1 cs word
+    (omega arith) col.second.place col.second.some
+    (own_word s.width p col.b at stripe 1 n c.args.j cs words word col.second hk.flags) none.1)
+    (λ cs k hk. unrefined s p col.c at stripe 2 cs word (omega arith) col.third.place col.third.some
+    (own_word s.width p col.c at stripe 2 n c.args.j cs words word col.third hk.flags) none.2)
+    (λ cs k hk. unrefined s p col.d at stripe 3 cs word
+    (omega arith) col.fourth.place col.fourth.some
+    (own_word s.width p col.d at stripe 3 n c.args.j cs words word col.fourth hk.flags) none.3)
+    held)
+
+pub returns-clause-codes : goal.returns-clause-codes
+returns-clause-codes c = λ s at stripe is coefs l cells col a h.
+    let p : ℕ = c.args.p in
+    let h0 = own_held s p c.args.n cells l c.args.words.now _ h in
+    let h1 = c.refinement_row-first.ensures.codes s col.a at stripe c.args.n coefs _ _ c.args.words.now col.first a h0 in
+    let h2 = c.refinement_row-second.ensures.codes s col.b at stripe c.args.n coefs _ _ c.args.words.now col.second a h1 in
+    let h3 = c.refinement_row-third.ensures.codes s col.c at stripe c.args.n coefs _ _ c.args.words.now col.third a h2 in
+    let h4 = c.refinement_row-fourth.ensures.codes s col.d at stripe c.args.n coefs _ _ c.args.words.now col.fourth a h3 in
+    rows_hold coefs s p refinement is col.a col.b col.c col.d cells l _ _ col.places h1.long h2.long h3.long h4
+
+pub returns-clause-goes_on : goal.returns-clause-goes_on
+returns-clause-goes_on c =
+    then_on c.args.encoder.now c.refinement_row-third.new.encoder c.refinement_row-fourth.new.encoder 9 3 12 (omega arith)
+    (then_on c.args.encoder.now c.refinement_row-second.new.encoder c.refinement_row-third.new.encoder 6 3 9 (omega arith)
+    (then_on c.args.encoder.now c.refinement_row-first.new.encoder c.refinement_row-second.new.encoder 3 3 6 (omega arith)
+    c.refinement_row-first.ensures.goes_on c.refinement_row-second.ensures.goes_on)
+    c.refinement_row-third.ensures.goes_on)
+    c.refinement_row-fourth.ensures.goes_on

@@ -1,0 +1,19 @@
+use Rattle.std.proofs.Common.{ℕ, ◌+◌, ◌*◌, ◌<◌, ◌≡◌, Bool, List, take}
+use Rattle.ebcot_contexts.specs.Cells.{Cell}
+use Rattle.ebcot_contexts.specs.Contexts.{Shape}
+use Rattle.ebcot_contexts.specs.Passes.{refinement, scan, columns}
+use Rattle.ebcot_passes.specs.Coding.{AreCoefs, HoldsAfter, GoesOn}
+use Rattle.ebcot_passes.proofs.stripes.refinement_stripe.Given as goal
+
+abbrev pub invariant-loop-x : goal.invariant-loop-x
+invariant-loop-x l = record {
+  codes : (s : Shape) (coefs k : List (ℕ × Bool)) (cells : List Cell) → s.width ≡ l.width →
+      4 * l.stripe < s.height
+      → AreCoefs s.width s.height coefs l.grid
+      → HoldsAfter coefs s l.p (columns refinement s l.p
+      (take (l.stripe * l.width)
+      (scan s.width s.height)) cells) k l.initial.words l.initial.encoder
+      → HoldsAfter coefs s l.p (columns refinement s l.p
+      (take (l.stripe * l.width + l.x) (scan s.width s.height)) cells) k l.words l.encoder;
+  goes_on : GoesOn l.initial.encoder l.encoder (12 * l.x);
+}

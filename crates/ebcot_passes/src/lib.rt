@@ -1,0 +1,23 @@
+//! The coding passes of code-blocks: ISO/IEC 15444-1, Annex D, coded with the MQ coder of Annex C.
+//!
+//! A [`BlockCoder`] codes the passes of a block one at a time, each call one pass, so that a block
+//! can be left after any of them and gone on with later. After the k-th pass the mark stands for
+//! the symbols of the block's first k passes, as `ebcot_contexts` defines them over what is known
+//! of each place; the ended code at the mark, from `mq_coder`, is then the code of these passes.
+//! Its flags are the words of `flag_words`. Nothing takes memory.
+//!
+//! From the inside out: a place (`place`), the row of a column in each kind of pass (`rows`), a
+//! column (`columns`, `cleanup`), a stripe, a pass, a block.
+#![tactic(auto)]
+
+mod block;
+mod cleanup;
+mod columns;
+mod passes;
+mod place;
+mod rows;
+mod stripes;
+#[cfg(test)]
+mod tests;
+
+pub use block::BlockCoder;

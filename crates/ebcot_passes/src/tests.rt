@@ -1,0 +1,75 @@
+// Codes that are known from outside.
+ghost use Rattle.std.specs.Prelude.{◌≡◌, length};
+
+use super::*;
+use arrayvec::ArrayVec;
+use cine_nums::Orient;
+use mq_coder::{Mark, ending};
+
+/// A block that lies at the left of a grid, of which the first places of its first column are
+/// given.
+fn grid_of(column: &[u32; 4]) -> [u32; 1024] {
+    let mut grid = [0; 1024];
+    grid[0] = column[0];
+    grid[32] = column[1];
+    grid[64] = column[2];
+    grid[96] = column[3];
+    grid
+}
+
+/// The mark after the next `passes` passes, or after all where there are fewer.
+fn code_passes(block: &mut BlockCoder, bytes: &mut [u8; 16384], passes: u32) -> Mark {
+    let mut mark = Mark::default();
+    for _ in 0..passes {
+        if block.has_more() && block.has_room(bytes) {
+            mark = block.code_pass(bytes);
+        }
+    }
+    mark
+}
+
+/// The ended code at a mark, of at most 8 bytes.
+fn code_at(mark: &Mark, bytes: &[u8; 16384]) -> ArrayVec<u8, 8> {
+    let ended = ending(mark);
+    let mut all = ArrayVec::new();
+    for byte in bytes.iter().take(ended.kept as usize) {
+        let _ = all.try_push(*byte);
+    }
+    for byte in ended.tail.as_slice() {
+        let _ = all.try_push(*byte);
+    }
+    all
+}
+
+#[test]
+fn codes_single_places(rt: HostRuntime) {
+    let minus = 0x8000_0000;
+    let rows = [
+        (1, 1, [1, 0, 0, 0], 1, [0x03].as_slice()),
+        (1, 1, [1 + minus, 0, 0, 0], 1, [0x07].as_slice()),
+        (3, 1, [0, 0, 1, 0], 1, [0x0C].as_slice()),
+        (1, 7, [64, 0, 0, 0], 1, [0x03].as_slice()),
+        (1, 7, [64, 0, 0, 0], 5, [0x03].as_slice()),
+        (1, 7, [64, 0, 0, 0], 6, [0x04].as_slice()),
+        (1, 7, [64, 0, 0, 0], 19, [0x04].as_slice()),
+        (1, 17, [131_008, 0, 0, 0], 48, [0x00, 0xEA, 0xC8].as_slice()),
+    ];
+    for (height, planes, column, passes, code) in rows {
+        let mut bytes = [0; 16384];
+        let mut block = BlockCoder::begin(Orient::LL, 1, height, planes, &grid_of(&column));
+        let mark = code_passes(&mut block, &mut bytes, passes);
+        assert_eq!(rt; code_at(&mark, &bytes).as_slice(), code);
+    }
+}
+
+#[test]
+fn goes_on_after_each_pass(rt: HostRuntime) {
+    let grid = grid_of(&[64, 0, 0, 0]);
+    let mut bytes = [0; 16384];
+    let mut block = BlockCoder::begin(Orient::HH, 1, 1, 7, &grid);
+    let early = code_passes(&mut block, &mut bytes, 5);
+    let late = code_passes(&mut block, &mut bytes, 14);
+    assert_eq!(rt; code_at(&early, &bytes).as_slice(), [0x03].as_slice());
+    assert_eq!(rt; code_at(&late, &bytes).as_slice(), [0x04].as_slice());
+    assert!(rt; !block.has_more());
+}
