@@ -1,8 +1,12 @@
+pub mod BeginLemmas
+pub mod DualLemmas
 pub mod FillLemmas
+pub mod LevelLemmas
 pub mod ListedLemmas
 pub mod MoveLemmas
 pub mod Outermost
 pub mod Places
 pub mod QueueLemmas
+pub mod SumLemmas
 pub mod TreeLemmas
 pub mod WalkLemmas

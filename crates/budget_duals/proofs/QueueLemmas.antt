@@ -146,7 +146,7 @@ refilled_queue blocks offered b (AtMost bound) old new is inside away queue same
     (record { inside = inside; offer = is; something = tt }) away queue same
 
 -- then it has one, unless it offers nothing
-refilled_some : (b k : ℕ) (o : Offer) (old new : List Entry) → Refilled b o old new → count_at k old ≤ count_at k new
+pub refilled_some : (b k : ℕ) (o : Offer) (old new : List Entry) → Refilled b o old new → count_at k old ≤ count_at k new
 refilled_some b k Nothing old new same = (let c = sum_by-IsPermutation (is_at k) old new same in omega arith)
 refilled_some b k (Step s) old new same =
     (let c = sum_by_pushed (is_at k) (record { block = b; offer = Step s }) old new same in omega arith)

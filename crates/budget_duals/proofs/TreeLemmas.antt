@@ -1,6 +1,6 @@
 -- Lists of budgets, one budget at a time.
 use Rattle.std.specs.Borrow.{Bor}
-use Rattle.std.proofs.Common.{ℕ, zero, suc, map, ◌+◌, ◌<◌, ◌≤◌, ◌≡◌, ◌⊎◌, inl, inr, List, [], ◌∷◌, ◌++◌, length, take, get_or, nat_lt, if◌then◌else◌, Option, Some, None, is_some, false, arith, refl, sym, ap, subst, ◌∙◌}
+use Rattle.std.proofs.Common.{ℕ, zero, suc, map, ◌+◌, ◌<◌, ◌≤◌, ◌≡◌, ◌⊎◌, inl, inr, List, [], ◌∷◌, ◌++◌, length, take, get_or, slice_index_or, nat_lt, if◌then◌else◌, Option, Some, None, is_some, false, arith, refl, sym, ap, subst, ◌∙◌}
 use Rattle.std.proofs.lemmas.Bool.Decides.{nat_tests}
 use Rattle.std.proofs.lemmas.List.{take_more}
 use Rattle.std.specs.List.{AllByRecursion}
@@ -8,8 +8,10 @@ use Rattle.rd_hulls.specs.declared.step.Step.{Step}
 use Rattle.allocation_bound.specs.Budgets.{Closed, IsOn, nearer, first}
 use Rattle.allocation_bound.proofs.Take.{first_none}
 use Rattle.allocation_bound.proofs.Chains.{chain_below}
-use Rattle.budget_duals.specs.Tree.{IsTree, around_in, last_of, outermost}
+use Rattle.budget_duals.specs.Tree.{IsTree, number_at, around_in, last_of, outermost}
 use Rattle.budget_duals.specs.declared.tree.Tree.{Tree}
+use Rattle.budget_duals.specs.declared.held.Held.{Held}
+use Rattle.budget_duals.specs.Numbered.{bytes_in}
 
 nearer_none : (o : Option Step) (k : ℕ) (later new : Option Closed) → (later ≡ None → new ≡ None)
     → nearer k o later ≡ None → nearer k o new ≡ None
@@ -128,3 +130,25 @@ row_below tree j d is below =
     let all = chain_below (around_in tree) is.nested j (length tree.limits.now) below in
     subst (AllByRecursion (λ k. k < length tree.limits.now))
     (sym (row_is tree.around.now j d (subst (λ n. j < n) (sym is.long) below))) all.1
+
+pub number_past : (numbers : List ℕ) (j : ℕ) → length numbers ≤ j → 0 ≡ get_or numbers j 0
+number_past [] j past = refl
+number_past (n ∷ rest) zero past = absurd (omega arith)
+number_past (n ∷ rest) (suc j) past = number_past rest j (omega arith)
+
+-- what is held may be said in two ways
+pub outermost_same : (limit f g : ℕ → ℕ) → ((j : ℕ) → f j ≡ g j) → (l : List ℕ) → outermost limit f l ≡ outermost limit g l
+outermost_same limit f g same [] = refl
+outermost_same limit f g same (j ∷ rest) =
+    ap (λ o. last_of o (if nat_lt (limit j) (f j) then Some j else None)) (outermost_same limit f g same rest)
+    ∙ ap (λ n. last_of (outermost limit g rest) (if nat_lt (limit j) n then Some j else None)) (same j)
+
+pub listed_bytes : (h : Held) (j : ℕ)
+    → number_at (h.frame ∷ h.inner ∷ slice_index_or h.component 0 0 ∷ slice_index_or h.component 1 0 ∷ slice_index_or h.component 2 0 ∷ []) j
+    ≡ bytes_in h j
+listed_bytes h zero = refl
+listed_bytes h (suc zero) = refl
+listed_bytes h (suc (suc zero)) = refl
+listed_bytes h (suc (suc (suc zero))) = refl
+listed_bytes h (suc (suc (suc (suc zero)))) = refl
+listed_bytes h (suc (suc (suc (suc (suc j))))) = refl

@@ -1,3 +1,5 @@
+pub mod Allocated
+pub mod Beginning
 pub mod Certificate
 pub mod Entries
 pub mod EntryLaws
@@ -6,8 +8,10 @@ pub mod Held
 pub mod Listed
 pub mod ListedLaws
 pub mod Members
+pub mod Numbered
 pub mod Offers
 pub mod Price
 pub mod Queue
+pub mod Sums
 pub mod Tree
 pub mod Walking

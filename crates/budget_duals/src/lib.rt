@@ -8,10 +8,13 @@
 //! choice, headers included, and after one step more.
 #![tactic(auto)]
 
+mod begin;
 mod certificate;
+mod duals;
 mod entry;
 mod held;
 mod holdings;
+mod levels;
 mod limits;
 mod listed;
 mod members;
@@ -19,13 +22,16 @@ mod moves;
 mod offer;
 mod offers;
 mod price;
+mod price_holdings;
 mod queue;
+mod sums;
 #[cfg(test)]
 mod tests;
 mod tree;
 mod walking;
 
 pub use certificate::{AllocateRefusal, Certificate, RefusedStep};
+pub use duals::{Duals, allocate_over};
 pub use held::Held;
 pub use holdings::Holdings;
 pub use limits::Limits;

@@ -36,13 +36,24 @@ fn none_closed(budgets: &[u32], closed: &[Option<Step>]) -> bool
     true
 }
 
+// The number of a budget, and 0 where the list is shorter.
+#[tactic(auto, using(crate::proofs::TreeLemmas::number_past))]
+fn number(numbers: &[u32], budget: u32) -> u32
+    ensures { result ≡ number_at numbers.now budget }
+{
+    if (budget as usize) < numbers.len() {
+        numbers[budget as usize]
+    } else {
+        0
+    }
+}
+
 // A budget where it holds more than its limit, else the one that was found before.
 fn broken_or(budget: u32, found: Option<u32>, limits: &[u32], held: &[u32]) -> Option<u32>
-    requires budget { budget < length limits.now }
-    requires held { length held.now ≡ length limits.now }
+    requires { budget < length limits.now }
     ensures { result ≡ last_of (if nat_lt (number_at limits.now budget) (number_at held.now budget) then Some budget else None) found }
 {
-    if held[budget as usize] > limits[budget as usize] {
+    if number(held, budget) > limits[budget as usize] {
         Some(budget)
     } else {
         found
@@ -52,7 +63,6 @@ fn broken_or(budget: u32, found: Option<u32>, limits: &[u32], held: &[u32]) -> O
 // The last of some budgets that holds more than its limit.
 fn last_broken(budgets: &[u32], limits: &[u32], held: &[u32]) -> Option<u32>
     requires below { AllByRecursion (λ j. j < length limits.now) budgets.now }
-    requires held { length held.now ≡ length limits.now }
     ensures { result ≡ outermost (number_at limits.now) (number_at held.now) budgets.now }
 {
     let mut found = None;
@@ -74,11 +84,10 @@ impl<'a> Tree<'a> {
     }
 
     /// The outermost budget of a block that holds more than its limit, where `held` has what each
-    /// budget holds and `node` is the block's innermost one.
+    /// budget holds (nothing where it is shorter) and `node` is the block's innermost one.
     pub fn outermost_broken(&self, node: u32, held: &[u32]) -> Option<u32>
         requires tree { IsTree self.now }
         requires node { node < length self.now.limits.now }
-        requires held { length held.now ≡ length self.now.limits.now }
         ensures { result ≡ outermost (limit_at self.now) (number_at held.now) (chain (around_in self.now) node) }
     {
         match last_broken(self.around[node as usize], self.limits, held) {
