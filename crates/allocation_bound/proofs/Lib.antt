@@ -1,9 +1,11 @@
 pub mod Certified
 pub mod Chains
 pub mod Close
+pub mod Counts
 pub mod Gaps
 pub mod Levels
 pub mod Lists
+pub mod PassGaps
 pub mod Prices
 pub mod Products
 pub mod Splits

@@ -1,6 +1,7 @@
 pub mod Budgets
 pub mod Laws
 pub mod Ledger
+pub mod Passes
 pub mod Refused
 pub mod Settled
 pub mod Steps

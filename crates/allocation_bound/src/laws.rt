@@ -5,6 +5,8 @@ ghost use Rattle.rd_hulls.specs.declared.step.Step.{Step};
 ghost use Rattle.allocation_bound.specs.Settled.{Budgets, AreBudgets, Outcome, IsSettled, nearest};
 ghost use Rattle.allocation_bound.specs.Walk.{Stands, Takes, Closes, IsStart};
 ghost use Rattle.allocation_bound.specs.Laws.{AreSteps, HasCertificate};
+ghost use Rattle.allocation_bound.specs.Passes.{HaveTerms, HasPassCertificate};
+ghost use Rattle.rd_hulls.specs.declared.point.Point.{Point};
 
 /// A walk that begins stands with some step as the front.
 pub fn starting()
@@ -35,4 +37,11 @@ pub fn settling()
 pub fn certificate()
     ensures { (w : Budgets) (steps : ℕ → List Step) (o : Outcome)
         → AreBudgets w → AreSteps w.blocks steps → IsSettled w steps o → HasCertificate w steps o }
+{}
+
+/// The same over all pass counts of all blocks, for the hulls of their points.
+pub fn pass_certificate()
+    ensures { (w : Budgets) (steps : ℕ → List Step) (o : Outcome) (points : ℕ → List Point) (least : ℕ → ℕ)
+        → AreBudgets w → IsSettled w steps o → HaveTerms w steps o points least
+        → HasPassCertificate w steps o points least }
 {}

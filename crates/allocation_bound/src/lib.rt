@@ -10,4 +10,4 @@
 
 mod laws;
 
-pub use laws::{certificate, closing, settling, starting, taking};
+pub use laws::{certificate, closing, pass_certificate, settling, starting, taking};
