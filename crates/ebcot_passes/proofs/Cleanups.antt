@@ -1,14 +1,14 @@
 -- A column of a cleanup pass, as it is coded.
-use Rattle.std.proofs.Common.{ℕ, zero, suc, ◌+◌, ◌*◌, ◌<◌, ◌≤◌, ◌≡◌, Bool, true, false}
+use Rattle.std.proofs.Common.{◌&&◌, not, ℕ, zero, suc, ◌+◌, ◌*◌, ◌<◌, ◌≤◌, ◌≡◌, Bool, true, false}
 use Rattle.std.proofs.Common.{List, [], ◌∷◌, ◌++◌, length, get_or, take}
 use Rattle.std.proofs.Common.{refl, sym, ap, ◌∙◌, subst, arith, append_assoc, append-nil}
 use Rattle.std.proofs.lemmas.Bool.{and_parts}
 use Rattle.std.proofs.lemmas.List.{length-set}
 use Rattle.mq_coder.specs.declared.encoder.Encoder.{Encoder}
 use Rattle.ebcot_contexts.specs.Cells.{Cell, cell_at, coef_at, bit_of, is_significant}
-use Rattle.ebcot_contexts.specs.Contexts.{Shape}
+use Rattle.ebcot_contexts.specs.Contexts.{Shape, is_quiet}
 use Rattle.ebcot_contexts.specs.Asks.{symbols, outcome}
-use Rattle.ebcot_contexts.specs.Passes.{cleanup, learned, zeros, visit, column}
+use Rattle.ebcot_contexts.specs.Passes.{is_calm, cleanup, learned, zeros, visit, column, is_untouched}
 use Rattle.ebcot_contexts.proofs.Trees.{AtEnds, at_outcome}
 use Rattle.ebcot_contexts.proofs.Kept.{new_kept, zeros_kept}
 use Rattle.ebcot_passes.specs.Coding.{IsRow, AreCoefs, HoldsAfter, IsSplit, word_of}
@@ -202,3 +202,10 @@ cleanup_holds coefs s p is a b c d cells l words encoder false e long split keep
     (rows_hold coefs s p cleanup is a b c d cells l words encoder split kept.one kept.two kept.three
     (subst (λ (k : List (ℕ × Bool)). Nested coefs s p cleanup
     (a ∷ b ∷ c ∷ d ∷ []) cells k words encoder) (append-nil l) rows))
+
+-- a column of which a place has been coded has no run mode
+pub touched_calm : (s : Shape) (p a b c d : ℕ) (cells : List Cell)
+    → is_untouched p (cell_at cells a) ≡ false → all_calm s p cells a b c d ≡ false
+touched_calm s p a b c d cells e =
+    ap (λ (t : Bool). t && not (is_significant (cell_at cells a)) && is_quiet s cells a
+    && is_calm s p cells b && is_calm s p cells c && is_calm s p cells d) e

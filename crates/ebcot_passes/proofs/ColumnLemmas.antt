@@ -205,11 +205,10 @@ unrefined s p i column stripe r cells word few at some is none =
     ∙ (ap (λ (k : ℕ). not (bit_at word (21 + 3 * r) == 1) && (k == 1)) none ∙ and_false _)
 
 -- all rows touched
-bit_set : (word k : ℕ) → bit_and word 0x49200000 ≡ 0x49200000 → bit_at 0x49200000 k ≡ 1 →
-    bit_at word k ≡ 1
-bit_set word k e one =
-    let both : min (bit_at word k) (bit_at 0x49200000 k) ≡ 1 = sym (bit_at_and word 0x49200000 k)
-    ∙ (ap (λ (v : ℕ). bit_at v k) e ∙ one) in
+bit_set : (word mask k : ℕ) → bit_and word mask ≡ mask → bit_at mask k ≡ 1 → bit_at word k ≡ 1
+bit_set word mask k e one =
+    let both : min (bit_at word k) (bit_at mask k) ≡ 1 =
+    sym (bit_at_and word mask k) ∙ (ap (λ (v : ℕ). bit_at v k) e ∙ one) in
     let m : min (bit_at word k) 1 ≡ 1 = rw one at both in
     let few = bit_at-lt word k in
     omega arith
@@ -217,8 +216,12 @@ bit_set word k e one =
 pub all_touched : (word : ℕ) → bit_and word 0x49200000 ≡ 0x49200000
     → (bit_at word (21 + 3 * 0) ≡ 1) × (bit_at word (21 + 3 * 1) ≡ 1) ×
     (bit_at word (21 + 3 * 2) ≡ 1) × (bit_at word (21 + 3 * 3) ≡ 1)
-all_touched word e =
-    (bit_set word 21 e refl, bit_set word 24 e refl, bit_set word 27 e refl, bit_set word 30 e refl)
+all_touched word e = (
+  bit_set word 0x49200000 21 e refl,
+  bit_set word 0x49200000 24 e refl,
+  bit_set word 0x49200000 27 e refl,
+  bit_set word 0x49200000 30 e refl,
+)
 
 pub touched_uncoded : (s : Shape) (p i column stripe r : ℕ) (cells : List Cell) (word : ℕ) → r < 4 →
     IsIn s.width i column stripe r → 0 < s.width
@@ -227,3 +230,25 @@ pub touched_uncoded : (s : Shape) (p i column stripe r : ℕ) (cells : List Cell
 touched_uncoded s p i column stripe r cells word few at some is one =
     sym (cleanup_test s p i column stripe r cells word few at some is)
     ∙ ap (λ (k : ℕ). not (k == 1)) one
+
+-- all rows significant
+pub all_significant : (word : ℕ) → bit_and word 0x2490 ≡ 0x2490
+    → (bit_at word (4 + 3 * 0) ≡ 1) × (bit_at word (4 + 3 * 1) ≡ 1)
+    × (bit_at word (4 + 3 * 2) ≡ 1) × (bit_at word (4 + 3 * 3) ≡ 1)
+all_significant word e = (
+  bit_set word 0x2490 4 e refl,
+  bit_set word 0x2490 7 e refl,
+  bit_set word 0x2490 10 e refl,
+  bit_set word 0x2490 13 e refl,
+)
+
+pub significant_uncoded : (s : Shape) (p i column stripe r : ℕ) (cells : List Cell) (word : ℕ)
+    → r < 4 → IsIn s.width i column stripe r → 0 < s.width
+    → IsFlagWord s.width p cells column stripe word → bit_at word (4 + 3 * r) ≡ 1
+    → is_coded significance s p i cells ≡ false
+significant_uncoded s p i column stripe r cells word few at some is one =
+    sym (significance_test s p i column stripe r cells word few at some is)
+    ∙ (ap (λ (k : ℕ). not (bit_at word (21 + 3 * r) == 1) && not (k == 1)
+    && not (eqb (neighbours_of word r) 0)) one
+    ∙ ap (λ (b : Bool). b && not (eqb (neighbours_of word r) 0))
+    (and_false (not (bit_at word (21 + 3 * r) == 1))))

@@ -170,6 +170,10 @@ pub fn cleanup_column(
         HoldsAfter coefs s p (column cleanup s p is cells) l words.new encoder.new }
     ensures goes_on { GoesOn encoder.old encoder.new 36 }
 {
+    // each place has been coded in this plane
+    if words[n] & 0x4920_0000 == 0x4920_0000 {
+        return;
+    }
     let word = code_head(encoder, words, grid, n, j, p);
     let first = cleanup_row(encoder, words, grid, contexts, n, j, word, 0, p);
     let second = cleanup_row(encoder, words, grid, contexts, n, j, first, 1, p);

@@ -38,7 +38,12 @@ pub fn significance_column(
     ensures goes_on { GoesOn encoder.old encoder.new 24 }
 {
     let word = words[n];
+    // no place in or around the column is significant
     if word & 0x3_FFFF == 0 {
+        return;
+    }
+    // each of its four places is
+    if word & 0x2490 == 0x2490 {
         return;
     }
     let first = significance_row(encoder, words, grid, contexts, n, j, word, 0, p);

@@ -1,9 +1,47 @@
-use Rattle.std.proofs.Common.{ℕ, refl, arith}
-use Rattle.ebcot_contexts.specs.Passes.{cleanup}
+use Rattle.std.proofs.Common.{ℕ, ◌*◌, List, get_or, set, subst, refl, arith}
+use Rattle.std.proofs.lemmas.List.{set-get_or}
+use Rattle.ebcot_contexts.specs.Passes.{cleanup, each}
+use Rattle.ebcot_passes.specs.Coding.{HoldsAfter}
 use Rattle.ebcot_passes.proofs.Encoding.{then_on}
 use Rattle.ebcot_passes.proofs.Settling.{settled_visit}
-use Rattle.ebcot_passes.proofs.Cleanups.{head_settled, cleanup_holds}
+use Rattle.ebcot_passes.proofs.Places.{own_word, own_held}
+use Rattle.ebcot_passes.proofs.ColumnLemmas.{none_coded, all_touched, touched_uncoded}
+use Rattle.ebcot_passes.proofs.RunLemmas.{plain_column}
+use Rattle.ebcot_passes.proofs.Cleanups.{head_settled, cleanup_holds, touched_calm}
 use Rattle.ebcot_passes.proofs.cleanup.cleanup_column.Goals as goal
+
+pub returns-then-words-n-eq1226833920-clause-codes :
+    goal.returns-then-words-n-eq1226833920-clause-codes
+returns-then-words-n-eq1226833920-clause-codes g =
+    λ s at stripe is coefs l cells col contexts a settled h.
+    let p : ℕ = g.args.p in
+    let n : ℕ = g.args.n in
+    let words : List ℕ = g.args.words.now in
+    let word : ℕ = get_or words n 0 in
+    let all = all_touched word g.if-words-n-eq1226833920.true in
+    let held = own_held s p n cells l words _ h in
+    let own = own_word s.width p col.a at stripe 0 n g.args.j cells words word col.first held.flags in
+    let open_place = touched_uncoded s p col.a at stripe 0 cells word
+    (omega arith) col.first.place col.first.some own all.0 in
+    plain_column coefs s p is col.a col.b col.c col.d
+    (s.width * s.height) cells l words g.args.encoder.now col.places
+    (touched_calm s p col.a col.b col.c col.d cells open_place)
+    (subst (λ (ws : List ℕ). HoldsAfter coefs s p
+    (each cleanup s p is cells) l ws g.args.encoder.now) (set-get_or words n 0)
+    (none_coded coefs s p cleanup is col.a col.b col.c col.d cells l (set words n word) _ col.places
+    (λ cs k hk. touched_uncoded s p col.a at stripe 0 cs word
+    (omega arith) col.first.place col.first.some
+    (own_word s.width p col.a at stripe 0 n g.args.j cs words word col.first hk.flags) all.0)
+    (λ cs k hk. touched_uncoded s p col.b at stripe 1 cs word
+    (omega arith) col.second.place col.second.some
+    (own_word s.width p col.b at stripe 1 n g.args.j cs words word col.second hk.flags) all.1)
+    (λ cs k hk. touched_uncoded s p col.c at stripe 2 cs word
+    (omega arith) col.third.place col.third.some
+    (own_word s.width p col.c at stripe 2 n g.args.j cs words word col.third hk.flags) all.2)
+    (λ cs k hk. touched_uncoded s p col.d at stripe 3 cs word
+    (omega arith) col.fourth.place col.fourth.some
+    (own_word s.width p col.d at stripe 3 n g.args.j cs words word col.fourth hk.flags) all.3)
+    held))
 
 pub returns-clause-codes : goal.returns-clause-codes
 returns-clause-codes g = λ s at stripe is coefs l cells col contexts a settled h.

@@ -5,6 +5,7 @@ use Rattle.ebcot_passes.specs.Coding.{HoldsAfter}
 use Rattle.ebcot_passes.proofs.Encoding.{then_on}
 use Rattle.ebcot_passes.proofs.Places.{own_word, own_held}
 use Rattle.ebcot_passes.proofs.ColumnLemmas.{none_coded, rows_hold, quiet_word, quiet_uncoded}
+use Rattle.ebcot_passes.proofs.ColumnLemmas.{all_significant, significant_uncoded}
 use Rattle.ebcot_passes.proofs.columns.significance_column.Goals as goal
 
 pub returns-then-word-eq0-clause-codes : goal.returns-then-word-eq0-clause-codes
@@ -29,6 +30,32 @@ returns-then-word-eq0-clause-codes c = λ s at stripe is coefs l cells col conte
     (omega arith) col.third.place col.third.some
     (own_word s.width p col.c at stripe 2 n c.args.j cs words word col.third hk.flags) none.2)
     (λ cs k hk. quiet_uncoded s p col.d at stripe 3 cs word
+    (omega arith) col.fourth.place col.fourth.some
+    (own_word s.width p col.d at stripe 3 n c.args.j cs words word col.fourth hk.flags) none.3)
+    held)
+
+pub returns-then-word-eq9360-clause-codes : goal.returns-then-word-eq9360-clause-codes
+returns-then-word-eq9360-clause-codes c = λ s at stripe is coefs l cells col contexts a h.
+    let p : ℕ = c.args.p in
+    let n : ℕ = c.args.n in
+    let words : List ℕ = c.args.words.now in
+    let word : ℕ = get_or words n 0 in
+    let none = all_significant word c.if-word-eq9360.true in
+    let held = own_held s p n cells l words _ h in
+    subst (λ (ws : List ℕ). HoldsAfter coefs s p
+    (each significance s p is cells) l ws c.args.encoder.now) (set-get_or words n 0)
+    (none_coded coefs s p significance is col.a col.b col.c col.d cells l
+    (set words n word) _ col.places
+    (λ cs k hk. significant_uncoded s p col.a at stripe 0 cs word
+    (omega arith) col.first.place col.first.some
+    (own_word s.width p col.a at stripe 0 n c.args.j cs words word col.first hk.flags) none.0)
+    (λ cs k hk. significant_uncoded s p col.b at stripe 1 cs word
+    (omega arith) col.second.place col.second.some
+    (own_word s.width p col.b at stripe 1 n c.args.j cs words word col.second hk.flags) none.1)
+    (λ cs k hk. significant_uncoded s p col.c at stripe 2 cs word
+    (omega arith) col.third.place col.third.some
+    (own_word s.width p col.c at stripe 2 n c.args.j cs words word col.third hk.flags) none.2)
+    (λ cs k hk. significant_uncoded s p col.d at stripe 3 cs word
     (omega arith) col.fourth.place col.fourth.some
     (own_word s.width p col.d at stripe 3 n c.args.j cs words word col.fourth hk.flags) none.3)
     held)
