@@ -14,7 +14,7 @@ use Rattle.lift97_fixed.proofs.Lines.{on_parity, off_parity, on_scale, off_scale
 use Rattle.lift97_fixed.proofs.Lines.{length-lift, length-scale, inner_left, inner_right}
 use Rattle.lift97_fixed.proofs.Lines.{last_right, gathered_all}
 
--- A loop that sets place after place has come to place n.
+-- A loop that sets place after place has reached place n.
 pub record Filled (f : ℕ → ℤ) (n : ℕ) (old x : List ℤ) : Type 0 where
   pub size : length x ≡ length old
   pub within : All Within30 x
@@ -293,3 +293,7 @@ pub filled_last : (f : ℕ → ℤ) (k last : ℕ) (old x : List ℤ) (v : ℤ) 
     Filled f (last + 1) old (set x last (passed v))
 filled_last f k last old x v same inside l value w =
     rw (← same) (filled_more f k old x v inside l value w)
+
+-- the new sample at place x of a row between two others
+abbrev pub between : ℤ → List ℤ → List ℤ → List ℤ → ℕ → ℤ
+between c line above below x = lifted c (at line x) (at above x) (at below x)

@@ -5,3 +5,4 @@ pub mod Planes
 pub mod Written
 pub mod Moves
 pub mod Levels
+pub mod RowParts

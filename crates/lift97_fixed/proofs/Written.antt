@@ -45,7 +45,7 @@ written_more width y n f old cur v inside fits w e in30 = record {
       ∙ w.kept x row hx (λ q. omega (arith, out q));
 }
 
--- a cell that the loop over row y hasn't come to, as the code passes it
+-- a cell that the loop over row y hasn't reached, as the code passes it
 passed_cell : (width y n : ℕ) (f : ℕ → ℤ) (old cur : List ℤ) (row : ℕ) → n < width →
     row * width + n < length cur → Written width y n f old cur →
     passed (cell width cur n row) ≡ cell width old n row
@@ -57,25 +57,6 @@ passed_cell width y n f old cur row inside fits w =
 abbrev pub lifted_row : ℤ → ℕ → ℕ → ℕ → ℕ → List ℤ → ℕ → ℤ
 lifted_row c width y above below cells x =
     lifted c (cell width cells x y) (cell width cells x above) (cell width cells x below)
-
-pub lift_row_step : (c : ℤ) (width y above below n : ℕ) (old cur : List ℤ) (r : ℤ) → n < width →
-    y * width + width ≤ length cur →
-    above * width + width ≤ length cur → below * width + width ≤ length cur →
-    Written width y n (lifted_row c width y above below old) old cur →
-    r ≡ lifted c (passed (cell width cur n y)) (passed (cell width cur n above))
-    (passed (cell width cur n below)) → Within30 r →
-    Written width y (n + 1) (lifted_row c width y above below old) old
-    (set cur (y * width + n) (passed r))
-lift_row_step c width y above below n old cur r inside hy ha hb w e in30 =
-    let f0 = passed_cell width y n (lifted_row c width y above below old) old cur y inside
-    (omega arith) w in
-    let f1 = passed_cell width y n (lifted_row c width y above below old) old cur above inside
-    (omega arith) w in
-    let f2 = passed_cell width y n (lifted_row c width y above below old) old cur below inside
-    (omega arith) w in
-    let value : r ≡ lifted_row c width y above below old n = cc in
-    rw (passed_within r in30) (written_more width y n
-    (lifted_row c width y above below old) old cur r inside (omega arith) w value in30)
 
 -- the row y after the scaling
 abbrev pub scaled_row : ℤ → ℕ → ℕ → List ℤ → ℕ → ℤ

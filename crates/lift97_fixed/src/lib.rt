@@ -1,8 +1,8 @@
 //! The irreversible 9-7 wavelet transform of ISO/IEC 15444-1, Annex F, in fixed point with 16 bits
-//! behind the point.
+//! after the point.
 //!
-//! `forward_line` answers the transform of a line as `specs/Line.antt` defines it: four lifting
-//! steps, two scalings, then the low-pass samples followed by the high-pass ones. `forward` answers
+//! `forward_line` returns the transform of a line as `specs/Line.antt` defines it: four lifting
+//! steps, two scalings, then the low-pass samples followed by the high-pass ones. `forward` returns
 //! that of a `Plane`, level after level, as `specs/Plane.antt` defines it: every column, then every
 //! row. Samples stay in -2^30 .. 2^30 - 1. No call but `Plane::new` takes memory, and none refuses
 //! anything.

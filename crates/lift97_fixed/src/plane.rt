@@ -16,7 +16,7 @@ pub struct Plane {
 }
 
 impl Plane {
-    /// A plane whose cells are all 0. The only refusal is want of memory.
+    /// A plane whose cells are all 0. The only refusal is out of memory.
     pub fn new(alloc: Global, width: u32, height: u32) -> Result<Plane, AllocError>
         requires wide { 1 ≤ width × width ≤ 4096 }
         requires high { 1 ≤ height × height ≤ 4096 }

@@ -1,11 +1,57 @@
 // The transform of the columns of a plane. Each step goes row by row, in the order of memory.
-ghost use Rattle.std.specs.Prelude.{◌≡◌, ◌≢◌, ℕ, ◌<◌, ◌≤◌, ◌*◌, ◌+◌, length, All};
+ghost use Rattle.std.specs.Prelude.{◌≡◌, ◌≢◌, ℕ, ◌<◌, ◌≤◌, ◌*◌, ◌+◌, ◌-◌, ℤ, List, ◌++◌, length};
+ghost use Rattle.std.specs.Prelude.{All};
 ghost use Rattle.cine_nums.specs.Fixed.{Within30};
-ghost use Rattle.lift97_fixed.specs.Line.{lifted, scaled, lift, scale, split, source_of};
+ghost use Rattle.lift97_fixed.specs.Line.{at, lifted, scaled, lift, scale, split, source_of};
 ghost use Rattle.lift97_fixed.specs.Line.{line_transform};
 ghost use Rattle.lift97_fixed.specs.Plane.{cell, columns};
 
 use crate::line::{ALPHA, BETA, DELTA, GAMMA, INVERSE_K, K, left_of, lifted, right_of, scaled};
+
+/// The lifting step with parameter `c` of the cells of a row, from the rows above and below it.
+#[inline]
+fn lift_between(line: &mut [i32], above: &[i32], below: &[i32], c: i32)
+    requires above_count { length above.now ≡ length line.old }
+    requires below_count { length below.now ≡ length line.old }
+    requires line { All Within30 line.old }
+    requires above { All Within30 above.now }
+    requires below { All Within30 below.now }
+    ensures value { (x : ℕ) → x < length line.old →
+        at line.new x ≡ lifted c (at line.old x) (at above.now x) (at below.now x) }
+    ensures within { All Within30 line.new }
+{
+    for x in 0..line.len() {
+        line[x] = lifted(c, line[x], above[x], below[x]);
+    }
+}
+
+/// The first `width` cells of row `row` of a plane, `before` having its rows before row `y` and
+/// `after` those after it.
+#[inline]
+fn row_beside<'a>(
+    before: &'a [i32],
+    after: &'a [i32],
+    stride: usize,
+    width: usize,
+    y: usize,
+    row: usize,
+) -> &'a [i32]
+    requires width { width ≤ stride }
+    requires count { length before.now ≡ y * stride }
+    requires other { row ≢ y }
+    requires there { y < row → (row - y - 1) * stride + stride ≤ length after.now }
+    ensures count { length result.now ≡ width }
+    ensures cells { (line : List ℤ) (x : ℕ) → length line ≡ stride → x < width →
+        at result.now x ≡ cell stride (before.now ++ (line ++ after.now)) x row }
+{
+    if row < y {
+        let from = row * stride;
+        &before[from..from + width]
+    } else {
+        let from = (row - y - 1) * stride;
+        &after[from..from + width]
+    }
+}
 
 /// The lifting step with parameter `c` of the first `width` cells of row `y`, from the rows `above`
 /// and `below`. A row has `stride` cells.
@@ -30,11 +76,11 @@ fn lift_row(
         cell stride cells.new x row ≡ cell stride cells.old x row }
     ensures within { All Within30 cells.new }
 {
-    for x in 0..width {
-        let left = cells[above * stride + x];
-        let right = cells[below * stride + x];
-        cells[y * stride + x] = lifted(c, cells[y * stride + x], left, right);
-    }
+    let (before, rest) = cells.split_at_mut(y * stride);
+    let (here, after) = rest.split_at_mut(stride);
+    let above = row_beside(before, after, stride, width, y, above);
+    let below = row_beside(before, after, stride, width, y, below);
+    lift_between(&mut here[..width], above, below, c);
 }
 
 /// The lifting step with parameter `c` along the first `width` columns of `height` rows, at the odd
