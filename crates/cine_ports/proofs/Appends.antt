@@ -1,13 +1,16 @@
 -- Pieces behind pieces.
-use Rattle.std.proofs.Common.{ℕ, ◌≡◌, ◌≤◌, ◌+◌, ◌-◌, ◌∙◌, List, ◌++◌, Option, Some, None, option_map, length, take, drop, refl, ap, sym, subst, arith}
-use Rattle.std.proofs.lemmas.List.{append_assoc, take-append-le, length-append, length-take, length-take-le, take_rest}
+use Rattle.std.proofs.Common.{ℕ, ◌≡◌, ◌≤◌, ◌+◌, ◌-◌, ◌∙◌, List, ◌++◌, Option, Some, None}
+use Rattle.std.proofs.Common.{option_map, length, take, drop, refl, ap, sym, subst, arith}
+use Rattle.std.proofs.lemmas.List.{append_assoc, take-append-le, length-append, length-take}
+use Rattle.std.proofs.lemmas.List.{length-take-le, take_rest}
 use Rattle.std.proofs.Math.Seq.{take-add, take-append-add}
 use borrow.Rule.Slice.PartMut.{put_mid, post_of}
 use Rattle.cine_ports.specs.Source.{File}
 use Rattle.cine_ports.specs.Outputs.{Kept, file_with, with_more}
 use Rattle.cine_ports.specs.WholePieces.{said_with}
 
-file_with-twice : (a b : List ℕ) (file : Option File) → file_with b (file_with a file) ≡ file_with (a ++ b) file
+file_with-twice : (a b : List ℕ) (file : Option File) →
+    file_with b (file_with a file) ≡ file_with (a ++ b) file
 file_with-twice a b None = refl
 file_with-twice a b (Some file) =
     ap (λ bytes. Some (record { name = file.name; bytes = bytes })) (append_assoc file.bytes a b)
@@ -17,7 +20,8 @@ pub with_more-twice : (a b : List ℕ) (kept : Option Kept) →
     option_map (with_more b) (option_map (with_more a) kept) ≡ option_map (with_more (a ++ b)) kept
 with_more-twice a b None = refl
 with_more-twice a b (Some kept) =
-    ap (λ file. Some (record { finished = kept.finished; unfinished = file })) (file_with-twice a b kept.unfinished)
+    ap (λ file. Some (record { finished = kept.finished; unfinished = file }))
+    (file_with-twice a b kept.unfinished)
 
 -- the part of a piece that a call was given, from a place on, and then the part that it took
 taken : (i n : ℕ) (piece : List ℕ) →
@@ -34,14 +38,16 @@ part-within i n piece in_piece in_part =
 
 -- the first bytes of a piece, and then the first ones of the rest
 pub with_more-step : (i n : ℕ) (piece : List ℕ) (kept : Option Kept) →
-    option_map (with_more (take n (take (length piece - i) (drop i piece)))) (option_map (with_more (take i piece)) kept)
+    option_map (with_more (take n (take (length piece - i) (drop i piece))))
+    (option_map (with_more (take i piece)) kept)
     ≡ option_map (with_more (take (i + n) piece)) kept
 with_more-step i n piece kept =
     with_more-twice (take i piece) (take n (take (length piece - i) (drop i piece))) kept
     ∙ ap (λ bytes. option_map (with_more bytes) kept) (taken i n piece)
 
 pub said_with-step : (i n : ℕ) (piece : List ℕ) (said : Option (List ℕ)) →
-    option_map (said_with (take n (take (length piece - i) (drop i piece)))) (option_map (said_with (take i piece)) said)
+    option_map (said_with (take n (take (length piece - i) (drop i piece))))
+    (option_map (said_with (take i piece)) said)
     ≡ option_map (said_with (take (i + n) piece)) said
 said_with-step i n piece None = refl
 said_with-step i n piece (Some bytes) =

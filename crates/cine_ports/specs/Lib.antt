@@ -1,5 +1,4 @@
 pub mod Failure
-pub mod Folder
 pub mod Memory
 pub mod WholePieces
 pub mod Names

@@ -13,7 +13,11 @@ kept_nothing = record { finished = []; unfinished = None }
 
 -- with an unfinished file of this name, without bytes
 abbrev pub with_begun : List ℕ → Kept → Kept
-with_begun name kept = record { finished = kept.finished; unfinished = Some (record { name = name; bytes = [] }) }
+with_begun name kept = record {
+  finished = kept.finished;
+  unfinished =
+      Some (record { name = name; bytes = [] });
+}
 
 -- a file with these bytes after its own
 abbrev pub file_with : List ℕ → Option File → Option File
@@ -22,7 +26,11 @@ file_with more (Some file) = Some (record { name = file.name; bytes = file.bytes
 
 -- with these bytes after those of the unfinished file
 abbrev pub with_more : List ℕ → Kept → Kept
-with_more more kept = record { finished = kept.finished; unfinished = file_with more kept.unfinished }
+with_more more kept = record {
+  finished = kept.finished;
+  unfinished =
+      file_with more kept.unfinished;
+}
 
 -- the finished files, followed by the one that was unfinished
 abbrev pub finished_with : List File → Option File → List File
@@ -31,4 +39,8 @@ finished_with files (Some file) = files ++ file ∷ []
 
 -- with the unfinished file at the end of the finished ones
 abbrev pub with_finished : Kept → Kept
-with_finished kept = record { finished = finished_with kept.finished kept.unfinished; unfinished = None }
+with_finished kept = record {
+  finished = finished_with kept.finished kept.unfinished;
+  unfinished =
+      None;
+}

@@ -3,7 +3,8 @@ use Rattle.std.specs.Prelude.{ℕ, Bool, ◌≡◌, ◌+◌, ◌-◌, ◌^◌, �
 use Rattle.cine_ports.specs.declared.fault.PortFault.{PortFault}
 use Rattle.cine_ports.specs.declared.fault.PortFault.TheVariants as port_fault
 
--- the numbers of the calls that are to fail, the number of the next call, and the most bytes that one call moves
+-- the numbers of the calls that are to fail, the number of the next call, and the most bytes that
+-- one call moves
 pub record Plan : Type 0 where
   pub failing : List ℕ
   pub calls : ℕ
@@ -25,7 +26,8 @@ after_call plan =
 
 -- a call was numbered, and failed exactly if its number is among the failing ones
 abbrev pub IsNumbered : Plan → Plan → Type 0 → Type 0
-IsNumbered before now failed = (now ≡ after_call before) × (failed ↔ Contains before.failing before.calls)
+IsNumbered before now failed =
+    (now ≡ after_call before) × (failed ↔ Contains before.failing before.calls)
 
 -- the call returned that it failed
 abbrev pub IsFailed : {T : Type 0} → Result T PortFault → Type 0

@@ -1,5 +1,7 @@
 // Where frames come from.
-ghost use Rattle.std.specs.Prelude.{[], Bool, false, ⊤, ◌≡◌, ◌<◌, ◌≤◌, ◌++◌, ℕ, length, take, map, slice_get, is_err, Result, IsTrue, IsSome, IfOk, IfSome, OnOk, OnErr};
+ghost use Rattle.std.specs.Prelude.{[], Bool, false, ⊤, ◌≡◌, ◌<◌, ◌≤◌, ◌++◌, ℕ, length, take, map};
+ghost use Rattle.std.specs.Prelude.{slice_get, is_err, Result, IsTrue, IsSome, IfOk, IfSome, OnOk};
+ghost use Rattle.std.specs.Prelude.{OnErr};
 ghost use Rattle.cine_ports.specs.declared.fault.Failed.{Failed};
 ghost use Rattle.cine_ports.specs.declared.fault.PortFault.{PortFault};
 ghost use Rattle.cine_ports.specs.Failure.{is_failed};
@@ -8,11 +10,12 @@ ghost use Rattle.cine_ports.specs.Names.{IsNameList};
 
 use crate::fault::{Failed, PortFault};
 
-/// A source of frames: a list of files, of which one at a time is begun and read from its first byte.
+/// A source of frames: a list of files, of which one at a time is begun and read from its first
+/// byte.
 ///
 /// The files of a source may be known or not; where they are known, no call changes them. Names are
-/// distinct and sorted by their bytes, whether the files are known or not. Once a call has failed, no
-/// further call is made.
+/// distinct and sorted by their bytes, whether the files are known or not. Once a call has failed,
+/// no further call is made.
 pub trait Frames {
     /// The files, where they are known, and the names that were listed.
     ghost source: { Self → Source };
@@ -68,7 +71,8 @@ pub trait Frames {
         ensures ok { OnOk result (IsTrue (reading self.new).is_begun) }
         // Where the files are known, all the bytes of this one are left.
         ensures left { OnOk result (IfSome (source self.new).files
-            (λ files. slice_get (map (λ file. file.bytes) files) i ≡ Some (reading self.new).left)) }
+            (λ files. slice_get (map (λ file. file.bytes) files) i
+            ≡ Some (reading self.new).left)) }
         ensures err { OnErr result ((reading self.new).is_begun ≡ false) }
         ensures asked { (reading self.new).asked ≡ i }
         ensures source { source self.new ≡ source self.old }
@@ -77,7 +81,8 @@ pub trait Frames {
 
     /// Moves the first bytes of what is left into the buffer, and returns how many.
     ///
-    /// For a buffer that isn't empty, 0 means that nothing is left. A read that fails moves nothing.
+    /// For a buffer that isn't empty, 0 means that nothing is left. A read that fails moves
+    /// nothing.
     fn read(&mut self, buf: &mut [u8]) -> Result<usize, Failed>
         requires working { has_failed self.old ≡ false }
         requires begun { IsTrue (reading self.old).is_begun }

@@ -1,11 +1,12 @@
 //! The outside of the encoder as three traits: where frames come from (`Frames`), where codestreams
-//! go (`Outputs`), and where the lines of a run go (`Report`). Each stands in memory, where its bytes
-//! are known and chosen calls fail, and as a folder or standard output.
+//! go (`Outputs`), and where the lines of a run go (`Report`). Each is here in memory, where its
+//! bytes are known and chosen calls fail; as a folder or standard output it stands in
+//! `system_ports`.
 //!
 //! An object knows whether a call of it has failed (`has_failed`): a call sets that exactly if it
-//! returns Failed, and each call asks that it isn't set. So no call is made after one that failed, and
-//! a failure can't be passed over by trying again. What was moved before it is a prefix of what was
-//! asked for, byte for byte.
+//! returns Failed, and each call asks that it isn't set. So no call is made after one that failed,
+//! and a failure can't be passed over by trying again. What was moved before it is a prefix of what
+//! was asked for, byte for byte.
 //!
 //! ```
 //! frames.list()?;
@@ -17,11 +18,8 @@
 //! ```
 #![tactic(auto)]
 
-mod failure_mark;
 mod fault;
 mod fault_plan;
-mod folder_frames;
-mod folder_outputs;
 mod frames;
 mod memory_frame;
 mod memory_frames;
@@ -32,23 +30,19 @@ mod names;
 mod null;
 mod outputs;
 mod report;
-mod stdout_report;
 mod steady_frames;
 mod whole_pieces;
 
 pub use fault::{Failed, PortFault};
-pub use folder_frames::FolderFrames;
-pub use folder_outputs::FolderOutputs;
 pub use frames::Frames;
 pub use memory_frame::MemoryFrame;
 pub use memory_frames::MemoryFrames;
 pub use memory_outputs::MemoryOutputs;
 pub use memory_report::MemoryReport;
-pub use names::is_frame_list;
+pub use names::{is_frame_list, is_name_list};
 pub use null::{NullOutputs, NullReport};
 pub use outputs::Outputs;
 pub use report::Report;
-pub use stdout_report::StdoutReport;
 pub use steady_frames::SteadyFrames;
 pub use whole_pieces::{read_fully, say, write_all};
 

@@ -7,8 +7,8 @@ use std::marker::Model;
 /// Outputs in memory, of which some calls fail, and which take pieces.
 ///
 /// The calls of `begin`, `write` and `finish` are numbered together from 0. Exactly those whose
-/// number is among the failing ones return Failed. A write without an error takes a whole piece,
-/// or all that it is given where that is shorter. `begin` makes the room that `finish` needs, so that
+/// number is among the failing ones return Failed. A write without an error takes a whole piece, or
+/// all that it is given where that is shorter. `begin` makes the room that `finish` needs, so that
 /// `finish` takes no memory.
 #[derive(Debug, Drop)]
 pub struct MemoryOutputs {

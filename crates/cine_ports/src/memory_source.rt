@@ -1,5 +1,6 @@
 // Files in memory that are read one after the other.
-ghost use Rattle.std.specs.Prelude.{[], ◌≡◌, ◌+◌, ◌++◌, ◌<◌, ◌≤◌, true, false, drop, length, map, min, take, slice_get, slice_index_or, IsTrue};
+ghost use Rattle.std.specs.Prelude.{[], ◌≡◌, ◌+◌, ◌++◌, ◌<◌, ◌≤◌, true, false, drop, length, map};
+ghost use Rattle.std.specs.Prelude.{min, take, slice_get, slice_index_or, IsTrue};
 ghost use Rattle.cine_ports.specs.Memory.{bytes_at, names_listed, known_source, known_reading};
 ghost use Rattle.cine_ports.specs.Names.{IsNameList};
 ghost use Rattle.cine_ports.specs.Source.{IsUnlisted};
@@ -80,11 +81,14 @@ impl MemorySource {
         self.at = 0;
     }
 
-    /// Moves the first bytes of what is left of the begun file into the buffer, and returns how many.
+    /// Moves the first bytes of what is left of the begun file into the buffer, and returns how
+    /// many.
     pub(crate) fn read(&mut self, buf: &mut [u8]) -> usize
         requires { IsTrue self.old.is_begun }
-        ensures count { result ≡ min (length (drop self.old.at (bytes_at self.old.files.items self.old.asked))) (length buf.old) }
-        ensures moved { take result buf.new ≡ take result (drop self.old.at (bytes_at self.old.files.items self.old.asked)) }
+        ensures count { result ≡ min (length
+            (drop self.old.at (bytes_at self.old.files.items self.old.asked))) (length buf.old) }
+        ensures moved { take result buf.new
+            ≡ take result (drop self.old.at (bytes_at self.old.files.items self.old.asked)) }
         ensures len { length buf.new ≡ length buf.old }
         ensures at { self.new.at ≡ self.old.at + result }
         ensures files { self.new.files ≡ self.old.files }
@@ -99,7 +103,8 @@ impl MemorySource {
     }
 }
 
-/// Copies the first items of one slice over the first of another, as many as fit, and returns how many.
+/// Copies the first items of one slice over the first of another, as many as fit, and returns how
+/// many.
 fn copy_prefix(from: &[u8], to: &mut [u8]) -> usize
     ensures count { result ≡ min (length from.now) (length to.old) }
     ensures moved { take result to.new ≡ take result from.now }

@@ -10,7 +10,7 @@ const TOO_MANY: usize = 1 << 32;
 
 /// Whether a source may list these names: fewer than 2^32, each before the next in the order of
 /// their bytes.
-pub(crate) fn is_name_list(names: &[String]) -> bool
+pub fn is_name_list(names: &[String]) -> bool
     ensures { IsTrue result ↔ IsNameList (map string_bytes names.now) }
 {
     names.len() < TOO_MANY && names.is_sorted_by(|a, b| a < b)

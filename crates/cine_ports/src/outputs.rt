@@ -1,5 +1,7 @@
 // Where codestreams go.
-ghost use Rattle.std.specs.Prelude.{Bool, false, ⊤, is_some, ◌≡◌, ◌<◌, ◌≤◌, ℕ, length, take, map, option_map, Contains, Option, List, Result, IsTrue, IfOk, IfSome, OnOk, OnErr};
+ghost use Rattle.std.specs.Prelude.{Bool, false, ⊤, is_some, ◌≡◌, ◌<◌, ◌≤◌, ℕ, length, take, map};
+ghost use Rattle.std.specs.Prelude.{option_map, Contains, Option, List, Result, IsTrue, IfOk};
+ghost use Rattle.std.specs.Prelude.{IfSome, OnOk, OnErr};
 ghost use Rattle.std.specs.Option.{ForSome};
 ghost use Rattle.cine_ports.specs.declared.fault.PortFault.{PortFault};
 ghost use Rattle.cine_ports.specs.Failure.{is_failed};
@@ -9,9 +11,9 @@ use crate::fault::PortFault;
 
 /// Files that are written one after the other: one is begun, written piece by piece, and finished.
 ///
-/// What the object keeps may be known or not. No call changes a finished file, its place, or whether
-/// the files are known. A call that returns an error leaves the files as they were. Once a call has
-/// failed, no further call is made.
+/// What the object keeps may be known or not. No call changes a finished file, its place, or
+/// whether the files are known. A call that returns an error leaves the files as they were. Once a
+/// call has failed, no further call is made.
 pub trait Outputs {
     /// The files, where they are known.
     ghost kept: { Self → Option Kept };
@@ -38,7 +40,8 @@ pub trait Outputs {
         requires closed { is_open self.old ≡ false }
         requires other_name { ForSome (kept self.old)
             (λ files. ¬ Contains (map (λ file. file.name) files.finished) name.now) }
-        ensures ok { OnOk result (kept self.new ≡ option_map (with_begun name.now) (kept self.old)) }
+        ensures ok { OnOk result (kept self.new
+            ≡ option_map (with_begun name.now) (kept self.old)) }
         ensures opened { OnOk result (IsTrue (is_open self.new)) }
         ensures err { OnErr result ((kept self.new ≡ kept self.old) × (is_open self.new ≡ false)) }
         ensures failed { has_failed self.new ≡ is_failed result }
@@ -70,5 +73,6 @@ pub trait Outputs {
         ensures gives { finish_gives self.old self.new result };
 
     /// Where the files are known, one of them is unfinished exactly if the object is open.
-    ghost open_known: { (s : Self) → IfSome (kept s) (λ files. is_open s ≡ is_some files.unfinished) };
+    ghost open_known: { (s : Self) →
+        IfSome (kept s) (λ files. is_open s ≡ is_some files.unfinished) };
 }

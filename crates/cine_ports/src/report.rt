@@ -1,5 +1,6 @@
 // Where the lines of a run go.
-ghost use Rattle.std.specs.Prelude.{Bool, false, ⊤, ◌≡◌, ◌<◌, ◌≤◌, ◌++◌, ℕ, List, Option, Result, length, take, option_map, IfOk, OnErr};
+ghost use Rattle.std.specs.Prelude.{Bool, false, ⊤, ◌≡◌, ◌<◌, ◌≤◌, ◌++◌, ℕ, List, Option, Result};
+ghost use Rattle.std.specs.Prelude.{length, take, option_map, IfOk, OnErr};
 ghost use Rattle.cine_ports.specs.declared.fault.PortFault.{PortFault};
 ghost use Rattle.cine_ports.specs.Failure.{is_failed};
 
@@ -7,7 +8,8 @@ use crate::fault::PortFault;
 
 /// A text that grows at its end.
 ///
-/// The bytes that were written may be known or not. Once a call has failed, no further call is made.
+/// The bytes that were written may be known or not. Once a call has failed, no further call is
+/// made.
 pub trait Report {
     /// The bytes that were written, where they are known.
     ghost said: { Self → Option (List ℕ) };

@@ -1,11 +1,8 @@
-ghost use Rattle.std.specs.Prelude.{false, ◌≡◌, is_some, IfOk, OnOk};
+ghost use Rattle.std.specs.Prelude.{false, ◌≡◌, OnOk};
 
 use super::*;
 use std::alloc::{AllocError, Global};
-use std::os::unix::fs::symlink;
-use std::rt::Files;
 use std::test::Fail;
-use std::{fs, io};
 
 fn file(alloc: Global, name: &str, bytes: &[u8]) -> Result<MemoryFrame, AllocError> {
     Ok(MemoryFrame {
@@ -51,15 +48,8 @@ fn steady_frames_are_read(rt: HostRuntime) -> Result<(), Fail> {
     Ok(())
 }
 
-#[test]
-fn standard_output_is_written(rt: HostRuntime) -> Result<(), Fail> {
-    let mut report = StdoutReport::new(rt.clone()?);
-    say(&mut report, b"one\n")?;
-    assert!(rt; !report.mark.has_failed);
-    Ok(())
-}
-
-/// How many calls succeed of those that list, begin and read a file of three bytes by two at a time.
+/// How many calls succeed of those that list, begin and read a file of three bytes by two at a
+/// time.
 fn calls_before_failure(alloc: Global, failing: u32) -> Result<u32, Fail> {
     let files = files(alloc, file(alloc, "a", b"123")?, file(alloc, "b", b"")?)?;
     if !is_frame_list(files.as_slice()) {
@@ -130,77 +120,5 @@ fn nothing_is_kept(rt: HostRuntime) -> Result<(), Fail> {
     write_all(&mut outputs, b"123")?;
     outputs.finish()?;
     say(&mut NullReport, b"one\n")?;
-    Ok(())
-}
-
-const SOURCE: &str = "cine_ports_source";
-
-/// A folder with three frames and three names that are none.
-fn make_source<R: Files + AllocGlobal>(rt: &R) -> io::Result<()> {
-    let _ = fs::remove_dir_all(rt, SOURCE);
-    fs::create_dir(rt, SOURCE)?;
-    fs::create_dir(rt, "cine_ports_source/folder.ppm")?;
-    fs::write(rt, "cine_ports_source/a-b.ppm", b"".as_slice())?;
-    fs::write(rt, "cine_ports_source/a.ppm", b"12345".as_slice())?;
-    fs::write(rt, "cine_ports_source/.ppm", b"".as_slice())?;
-    fs::write(rt, "cine_ports_source/a.pgm", b"".as_slice())?;
-    symlink(rt, "a.ppm", "cine_ports_source/link.ppm")
-}
-
-fn source<R: Files + AllocGlobal + Clone + Drop>(rt: &R) -> Result<FolderFrames<R>, AllocError>
-    ensures { IfOk result (λ frames. frames.mark.has_failed ≡ false) }
-{
-    let alloc = rt.alloc();
-    let folder = String::from_str(alloc, SOURCE)?;
-    Ok(FolderFrames::new(rt.clone()?, folder, String::from_str(alloc, ".ppm")?))
-}
-
-#[test]
-fn a_folder_is_read(rt: HostRuntime) -> Result<(), Fail> {
-    make_source(&rt)?;
-    let mut frames = source(&rt)?;
-    frames.list()?;
-    assert!(rt; frames.count() == 3);
-    assert!(rt; frames.name(1) == "a-b" && frames.name(2) == "link");
-    let read = first_bytes(rt.alloc(), &mut frames, 2)?;
-    assert!(rt; read.as_slice() == b"12345".as_slice());
-    symlink(&rt, "missing", "cine_ports_source/broken.ppm")?;
-    let mut broken = source(&rt)?;
-    assert!(rt; broken.list().is_err());
-    assert!(rt; !frames.mark.has_failed && broken.mark.has_failed);
-    fs::remove_dir_all(&rt, SOURCE)?;
-    Ok(())
-}
-
-const TARGET: &str = "cine_ports_target";
-
-const WHOLE: &str = "cine_ports_target/a.j2c";
-
-/// The outputs of a folder.
-fn target<R: Files + AllocGlobal + Clone + Drop>(
-    rt: &R,
-    folder: &str,
-) -> Result<FolderOutputs<R>, AllocError>
-    ensures closed { IfOk result (λ outputs. is_some outputs.part ≡ false) }
-    ensures working { IfOk result (λ outputs. outputs.mark.has_failed ≡ false) }
-{
-    Ok(FolderOutputs::new(rt.clone()?, String::from_str(rt.alloc(), folder)?))
-}
-
-#[test]
-fn a_folder_is_written(rt: HostRuntime) -> Result<(), Fail> {
-    let _ = fs::remove_dir_all(&rt, TARGET);
-    let mut outputs = target(&rt, TARGET)?;
-    outputs.begin("a.j2c")?;
-    write_all(&mut outputs, b"12345")?;
-    assert!(rt; !fs::exists(&rt, WHOLE)?);
-    outputs.finish()?;
-    let read = fs::read(&rt, WHOLE)?;
-    assert!(rt; read.as_slice() == b"12345".as_slice());
-    // No folder stands below a file.
-    let mut below = target(&rt, WHOLE)?;
-    assert!(rt; below.begin("b.j2c").is_err());
-    assert!(rt; !outputs.mark.has_failed && below.mark.has_failed);
-    fs::remove_dir_all(&rt, TARGET)?;
     Ok(())
 }

@@ -1,8 +1,10 @@
 // Whole pieces through ports that move a part at a time.
-ghost use Rattle.std.specs.Prelude.{[], false, is_err, ◌≡◌, ◌<◌, ◌≤◌, ◌++◌, ℕ, length, take, option_map, IsTrue, IsSome, IfOk, OnOk, OnErr};
+ghost use Rattle.std.specs.Prelude.{[], false, is_err, ◌≡◌, ◌<◌, ◌≤◌, ◌++◌, ℕ, length, take};
+ghost use Rattle.std.specs.Prelude.{option_map, IsTrue, IsSome, IfOk, OnOk, OnErr};
 ghost use Rattle.cine_ports.specs.Failure.{is_failed};
 ghost use Rattle.cine_ports.specs.Outputs.{with_more};
-ghost use Rattle.cine_ports.specs.WholePieces.{IsSuffixOf, WroteProperPrefix, SaidProperPrefix, said_with};
+ghost use Rattle.cine_ports.specs.WholePieces.{IsSuffixOf, WroteProperPrefix, SaidProperPrefix};
+ghost use Rattle.cine_ports.specs.WholePieces.{said_with};
 
 use crate::{Failed, Frames, Outputs, PortFault, Report};
 
@@ -38,13 +40,15 @@ pub fn read_fully<F: Frames>(frames: &mut F, buf: &mut [u8]) -> Result<usize, Fa
 
 /// Appends a whole piece to the unfinished file.
 ///
-/// The call fails exactly if a write failed. After an error a proper prefix of the piece is appended.
+/// The call fails exactly if a write failed. After an error a proper prefix of the piece is
+/// appended.
 pub fn write_all<O: Outputs>(outputs: &mut O, piece: &[u8]) -> Result<(), PortFault>
     requires working { O.has_failed outputs.old ≡ false }
     requires open { IsTrue (O.is_open outputs.old) }
     ensures ok { OnOk result
         (O.kept outputs.new ≡ option_map (with_more piece.now) (O.kept outputs.old)) }
-    ensures err { OnErr result (WroteProperPrefix piece.now (O.kept outputs.old) (O.kept outputs.new)) }
+    ensures err { OnErr result (WroteProperPrefix piece.now (O.kept outputs.old)
+        (O.kept outputs.new)) }
     ensures open { IsTrue (O.is_open outputs.new) }
     ensures failed { O.has_failed outputs.new ≡ is_failed result }
 {
@@ -57,12 +61,14 @@ pub fn write_all<O: Outputs>(outputs: &mut O, piece: &[u8]) -> Result<(), PortFa
 
 /// Appends a whole piece to a report.
 ///
-/// The call fails exactly if a write failed. After an error a proper prefix of the piece is appended.
+/// The call fails exactly if a write failed. After an error a proper prefix of the piece is
+/// appended.
 pub fn say<S: Report>(report: &mut S, piece: &[u8]) -> Result<(), PortFault>
     requires { S.has_failed report.old ≡ false }
     ensures ok { OnOk result
         (S.said report.new ≡ option_map (said_with piece.now) (S.said report.old)) }
-    ensures err { OnErr result (SaidProperPrefix piece.now (S.said report.old) (S.said report.new)) }
+    ensures err { OnErr result (SaidProperPrefix piece.now (S.said report.old)
+        (S.said report.new)) }
     ensures failed { S.has_failed report.new ≡ is_failed result }
 {
     let mut done = 0;

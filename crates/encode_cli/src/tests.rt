@@ -3,13 +3,11 @@ ghost use Rattle.std.specs.Prelude.{◌≤◌};
 
 use crate::arguments::places;
 use crate::run::run;
-use cine_ports::{
-    FolderFrames, FolderOutputs, MemoryFrame, MemoryFrames, MemoryOutputs, MemoryReport,
-    is_frame_list,
-};
+use cine_ports::{MemoryFrame, MemoryFrames, MemoryOutputs, MemoryReport, is_frame_list};
 use std::alloc::{AllocError, Global};
 use std::fs;
 use std::test::Fail;
+use system_ports::{FolderFrames, FolderOutputs};
 
 /// A grey frame of one pixel.
 const GREY: &[u8] = b"P6\n1 1\n4095\n\x08\x00\x08\x00\x08\x00";

@@ -9,4 +9,5 @@ pub returns-then-entries-lt-TOO_MANY : goal.returns-then-entries-lt-TOO_MANY
 returns-then-entries-lt-TOO_MANY c =
     let few : length c.args.entries.now < 2 ^ 32 = omega (arith, c.if-entries-lt-TOO_MANY.true) in
     list_test (λ file. file.name) c.args.entries.now c.is_sorted_by.result few
-    (c.is_sorted_by.ensures.cases (λ a b. is_lt (slice_cmp nat_cmp a.name b.name)) (always_returns_same _ _ _ (λ a r f k. search (rules, of_calls))))
+    (c.is_sorted_by.ensures.cases (λ a b. is_lt (slice_cmp nat_cmp a.name b.name))
+    (always_returns_same _ _ _ (λ a r f k. search (rules, of_calls))))

@@ -10,4 +10,6 @@ pub returns-then-names-lt-TOO_MANY : goal.returns-then-names-lt-TOO_MANY
 returns-then-names-lt-TOO_MANY c =
     let few : length c.args.names.now < 2 ^ 32 = omega (arith, c.if-names-lt-TOO_MANY.true) in
     list_test string_bytes c.args.names.now c.is_sorted_by.result few
-    (c.is_sorted_by.ensures.cases (λ a b. is_lt (slice_cmp nat_cmp (string_bytes a) (string_bytes b))) (always_returns_same _ _ _ (λ a r f k. search (rules, of_calls))))
+    (c.is_sorted_by.ensures.cases (λ a b. is_lt
+    (slice_cmp nat_cmp (string_bytes a) (string_bytes b)))
+    (always_returns_same _ _ _ (λ a r f k. search (rules, of_calls))))

@@ -14,7 +14,8 @@ loop-done-preserved g c =
     let before = (g.F.Frames.reading c.loop-done.frames).left in (
       read-within i n buf part kept.0 ensured.count,
       (λ told. kept.1 told ∙ read-step i n buf part before left kept.0 ensured.count
-          (ap (λ bytes. take i buf ++ bytes) (ensured.moved (subst (λ source. IsSome source.files) (sym kept.4) told)))),
+          (ap (λ bytes. take i buf ++ bytes)
+          (ensured.moved (subst (λ source. IsSome source.files) (sym kept.4) told)))),
       ensured.begun,
       ensured.asked ∙ kept.3,
       ensured.source ∙ kept.4,

@@ -9,6 +9,7 @@ loop-done-preserved g c =
     let n = c.in_ok-done.field-0 in
     let piece = c.args.piece.now in
     let more = c.in_ok-done.ensures.appended
-    ∙ ap (λ said. option_map (said_with (take n (take (length piece - i) (drop i piece)))) said) c.loop-done.invariant.1
+    ∙ ap (λ said. option_map (said_with
+    (take n (take (length piece - i) (drop i piece)))) said) c.loop-done.invariant.1
     ∙ said_with-step i n piece (g.S.Report.said c.args.report.now) in
     (part-within i n piece c.loop-done.invariant.0 c.in_ok-done.ensures.count, more, c.in_ok-done.ensures.failed)

@@ -6,7 +6,8 @@ use Rattle.cine_ports.proofs.whole_pieces.say.Given as goal
 abbrev pub invariant-loop-done : goal.invariant-loop-done
 invariant-loop-done g l =
     (l.done ≤ length l.piece)
-    × (g.S.Report.said l.report ≡ option_map (said_with (take l.done l.piece)) (g.S.Report.said l.fn.report))
+    × (g.S.Report.said l.report ≡ option_map (said_with (take l.done l.piece))
+    (g.S.Report.said l.fn.report))
     × (g.S.Report.has_failed l.report ≡ false)
 
 abbrev pub decreases-loop-done : goal.decreases-loop-done

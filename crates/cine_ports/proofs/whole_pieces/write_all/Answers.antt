@@ -9,6 +9,7 @@ loop-done-preserved g c =
     let n = c.in_ok-done.field-0 in
     let piece = c.args.piece.now in
     let more = c.in_ok-done.ensures.appended
-    ∙ ap (λ kept. option_map (with_more (take n (take (length piece - i) (drop i piece)))) kept) c.loop-done.invariant.1
+    ∙ ap (λ kept. option_map (with_more
+    (take n (take (length piece - i) (drop i piece)))) kept) c.loop-done.invariant.1
     ∙ with_more-step i n piece (g.O.Outputs.kept c.args.outputs.now) in
     (part-within i n piece c.loop-done.invariant.0 c.in_ok-done.ensures.count, more, c.in_ok-done.ensures.open, c.in_ok-done.ensures.failed)

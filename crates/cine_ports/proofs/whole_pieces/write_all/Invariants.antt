@@ -6,7 +6,8 @@ use Rattle.cine_ports.proofs.whole_pieces.write_all.Given as goal
 abbrev pub invariant-loop-done : goal.invariant-loop-done
 invariant-loop-done g l =
     (l.done ≤ length l.piece)
-    × (g.O.Outputs.kept l.outputs ≡ option_map (with_more (take l.done l.piece)) (g.O.Outputs.kept l.fn.outputs))
+    × (g.O.Outputs.kept l.outputs ≡ option_map (with_more (take l.done l.piece))
+    (g.O.Outputs.kept l.fn.outputs))
     × IsTrue (g.O.Outputs.is_open l.outputs)
     × (g.O.Outputs.has_failed l.outputs ≡ false)
 

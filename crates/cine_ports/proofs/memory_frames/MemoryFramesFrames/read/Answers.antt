@@ -9,7 +9,8 @@ returns-clause-moved c told =
     let rest = drop c.most-most.result c.args.buf.now in
     let seen = ap (λ f. f.reading.left) c.self.view_is in
     let begun = subst (λ f. IsTrue f.reading.is_begun) (sym c.self.view_is) c.requires.begun in
-    let within : n ≤ length c.read.new.buf = omega (arith, c.most-most.ensures.value, c.read.ensures.count, c.read.ensures.len) in
+    let within : n ≤ length c.read.new.buf =
+    omega (arith, c.most-most.ensures.value, c.read.ensures.count, c.read.ensures.len) in
     let moved = left-moved memory.is_begun memory.files.items memory.asked memory.at n c.read.new.buf rest begun within c.read.ensures.moved in
     let files = ap (λ files. files.items) c.read.ensures.files in
     let still = c.read.ensures.begun in

@@ -1,6 +1,7 @@
 // The report that is standard output.
 use crate::failure_mark::FailureMark;
-use crate::{PortFault, Report};
+use crate::interrupted::print_once;
+use cine_ports::{PortFault, Report};
 use std::io::Print;
 
 /// Standard output. Each piece goes straight to it: nothing is held back.
@@ -32,7 +33,7 @@ impl<R: Print + Drop> Report for StdoutReport<R> {
     ghost has_failed = { λ r. r.mark.has_failed };
 
     fn write(&mut self, piece: &[u8]) -> Result<usize, PortFault> {
-        match self.rt.write_some(piece) {
+        match print_once(&self.rt, piece) {
             // A sink that takes nothing of a piece that isn't empty fails.
             Ok(0) if !piece.is_empty() => Err(PortFault::from(self.mark.fail())),
             Ok(n) => Ok(n),

@@ -4,7 +4,7 @@ ghost use Rattle.std.specs.IoError.{error_kind};
 ghost use Rattle.cine_ports.specs.declared.fault.PortFault.TheVariants as port_fault;
 ghost use Rattle.cine_ports.specs.Failure.{is_failed};
 
-use crate::{Failed, PortFault};
+use cine_ports::{Failed, PortFault};
 use std::io;
 use std::io::ErrorKind;
 
@@ -30,8 +30,8 @@ impl FailureMark {
         Failed
     }
 
-    /// What a call returns that met this error of the system: Memory exactly if its kind is OutOfMemory,
-    /// else Failed, which is noted.
+    /// What a call returns that met this error of the system: Memory exactly if its kind is
+    /// OutOfMemory, else Failed, which is noted.
     pub(crate) fn refuse(&mut self, error: io::Error) -> PortFault
         requires { self.old.has_failed ≡ false }
         ensures memory { (result ≡ port_fault.Memory) ↔ (error_kind error ≡ ErrorKind.OutOfMemory) }

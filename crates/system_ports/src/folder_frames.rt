@@ -1,25 +1,25 @@
 // Frames that lie in a folder.
-ghost use Rattle.std.specs.Prelude.{◌<◌, List, ℕ, All, IsSorted, is_some, length, map, IfOk, IfSome, IfNone};
+ghost use Rattle.std.specs.Prelude.{◌<◌, List, ℕ, All, IsSorted, is_some, length, map, IfOk};
+ghost use Rattle.std.specs.Prelude.{IfSome, IfNone};
 ghost use Rattle.std.specs.Fs.{dir_entry_name};
 ghost use Rattle.std.specs.String.{string_bytes, string_cmp};
-ghost use Rattle.cine_ports.specs.Folder.{IsStem, unknown_source, unknown_reading};
+ghost use Rattle.system_ports.specs.Folder.{IsStem, unknown_source, unknown_reading};
 ghost use Rattle.cine_ports.specs.Names.{IsNameList};
 ghost use Rattle.cine_ports.specs.Source.{IsUnlisted};
 
 use crate::failure_mark::FailureMark;
-use crate::names::is_name_list;
-use crate::{Failed, Frames, PortFault};
+use crate::interrupted::read_once;
+use cine_ports::{Failed, Frames, PortFault, is_name_list};
 use std::fs::DirEntry;
-use std::io::Read;
 use std::path::Path;
 use std::rt::Files;
 use std::{fs, io};
 
-/// The files of a folder whose names end in a suffix and are longer than it. Their bytes aren't
-/// told, and their names without the suffix.
+/// The files of a folder whose names end in a suffix and are longer than it, called by their names
+/// without the suffix. Their bytes aren't known.
 ///
-/// A link counts as what it points to. A file name that isn't UTF-8 is a fault of `list`, and so
-/// is a link with the suffix that points to nothing.
+/// A link counts as what it points to. `list` fails where a file name isn't UTF-8, or where a link
+/// with the suffix points to nothing.
 #[derive(Drop)]
 pub struct FolderFrames<R: Files + AllocGlobal + Clone + Drop> {
     rt: R,
@@ -62,7 +62,7 @@ impl<R: Files + AllocGlobal + Clone + Drop> FolderFrames<R> {
     }
 }
 
-/// A file name without the suffix, where it ends in it and is longer.
+/// A file name without the suffix, if it ends in it and is longer.
 fn stem<'a>(file_name: &'a str, suffix: &str) -> Option<&'a str>
     ensures found { IfSome result (λ name. IsStem file_name.now suffix.now name.now) }
     ensures none { IfNone result ((name : List ℕ) → ¬ (IsStem file_name.now suffix.now name)) }
@@ -98,7 +98,8 @@ fn frame_names<R: Files + AllocGlobal + Clone + Drop>(
     suffix: &str,
 ) -> io::Result<Vec<String>>
     ensures sorted { IfOk result (λ names. IsSorted string_cmp names.items) }
-    ensures not_empty { IfOk result (λ names. All (λ name. 0 < length (string_bytes name)) names.items) }
+    ensures not_empty { IfOk result
+        (λ names. All (λ name. 0 < length (string_bytes name)) names.items) }
 {
     let alloc = rt.alloc();
     let mut names = Vec::new(alloc);
@@ -112,6 +113,7 @@ fn frame_names<R: Files + AllocGlobal + Clone + Drop>(
     Ok(names)
 }
 
+/// Opens the file of a name and the suffix in a folder.
 fn open_frame<R: Files + AllocGlobal>(
     rt: &R,
     folder: &str,
@@ -170,10 +172,10 @@ impl<R: Files + AllocGlobal + Clone + Drop> Frames for FolderFrames<R> {
         }
     }
 
-    /// Every error of the system is a fault here, want of memory too: a read has no other refusal.
+    /// Every error of the system is a failure here, out of memory too: a read has no other error.
     fn read(&mut self, buf: &mut [u8]) -> Result<usize, Failed> {
         match &mut self.file {
-            Some(file) => match file.read(buf) {
+            Some(file) => match read_once(file, buf) {
                 Ok(n) => Ok(n),
                 Err(_) => Err(self.mark.fail()),
             },

@@ -1,59 +1,25 @@
 // Outputs that are files of a folder.
 use crate::failure_mark::FailureMark;
-use crate::{Outputs, PortFault};
-use std::fs::OpenFile;
-use std::io::Write;
-use std::path::{Path, PathBuf};
+use crate::part::{Part, begin_part};
+use cine_ports::{Outputs, PortFault};
+use std::io::ErrorKind;
 use std::rt::Files;
 use std::{fs, io};
 
-/// A file that is written under its name with `.part` behind it.
-#[derive(Drop)]
-struct Part<F: Write + OpenFile + Drop> {
-    file: F,
-    written: u64,
-    path: PathBuf,
-    whole: PathBuf,
-}
-
-impl<F: Write + OpenFile + Drop> Part<F> {
-    ghost use Rattle.std.specs.Prelude.{◌<◌, ◌≤◌, length, IfOk};
-
-    /// Writes a piece or its front. A file that takes nothing of a piece that isn't empty fails.
-    fn write(&mut self, piece: &[u8]) -> io::Result<usize>
-        ensures count { IfOk result (λ n. n ≤ length piece.now) }
-        ensures some { IfOk result (λ n. 0 < length piece.now → 0 < n) }
-    {
-        let n = self.file.write(piece)?;
-        if n == 0 && !piece.is_empty() {
-            return Err(io::Error::from(io::ErrorKind::WriteZero));
-        }
-        self.written = self.written.saturating_add(n as u64);
-        Ok(n)
-    }
-
-    /// Gives the file its name, once all that was written stands on the disk.
-    fn finish<R: Files>(&mut self, rt: &R) -> io::Result<()> {
-        self.file.flush()?;
-        self.file.sync_data()?;
-        if self.file.metadata()?.len() != self.written {
-            return Err(io::Error::from(io::ErrorKind::UnexpectedEof));
-        }
-        fs::rename(rt, self.path.as_path(), self.whole.as_path())
-    }
-}
-
 /// Files of a folder, which is made at the first `begin` where it isn't there.
 ///
-/// An unfinished file has its name with `.part` behind it, which stays after a fault. `finish`
-/// writes what the system still holds to the disk and renames the file, in the place of one that
-/// had the name before. So a file that has its own name is whole, whatever stops the program.
+/// An unfinished file is called `NAME.part`, which stays after a failure. What had that name before
+/// is removed first, and the file is made new, so that nothing but it is written to. `finish` puts
+/// what the system still holds on the disk and renames the file, in the place of an older one of
+/// its name. So what is called `NAME` is whole, whatever stops the program, as long as no other
+/// program changes what is called `NAME.part` in between. A folder without a name is a failure at
+/// `begin`.
 #[derive(Drop)]
 pub struct FolderOutputs<R: Files + AllocGlobal + Clone + Drop> {
     rt: R,
     folder: String,
     is_made: bool,
-    part: Option<Part<R::File>>,
+    pub(crate) part: Option<Part<R::File>>,
     pub(crate) mark: FailureMark,
 }
 
@@ -77,26 +43,26 @@ impl<R: Files + AllocGlobal + Clone + Drop> FolderOutputs<R> {
     }
 }
 
-fn begin_part<R: Files + AllocGlobal>(
+/// Makes a folder and those above it where they aren't there. An empty name is an error: files
+/// below it would be files of the current folder.
+fn make_folder<R: Files>(rt: &R, folder: &str) -> io::Result<()> {
+    if folder.is_empty() {
+        return Err(io::Error::from(ErrorKind::InvalidInput));
+    }
+    fs::create_dir_all(rt, folder)
+}
+
+/// Begins the file of a name in a folder, which is made first unless it is made already.
+fn begin_output<R: Files + AllocGlobal>(
     rt: &R,
     folder: &str,
     is_made: bool,
     name: &str,
 ) -> io::Result<Part<R::File>> {
     if !is_made {
-        fs::create_dir_all(rt, folder)?;
+        make_folder(rt, folder)?;
     }
-    let alloc = rt.alloc();
-    let part_name = format!(in alloc; "{name}.part")?;
-    let path = Path::new(folder).join(alloc, part_name.as_str())?;
-    let whole = Path::new(folder).join(alloc, name)?;
-    let file = fs::create(rt, path.as_path())?;
-    Ok(Part {
-        file,
-        written: 0,
-        path,
-        whole,
-    })
+    begin_part(rt, folder, name)
 }
 
 impl<R: Files + AllocGlobal + Clone + Drop> Outputs for FolderOutputs<R> {
@@ -111,7 +77,7 @@ impl<R: Files + AllocGlobal + Clone + Drop> Outputs for FolderOutputs<R> {
     ghost open_known = { λ o. tt };
 
     fn begin(&mut self, name: &str) -> Result<(), PortFault> {
-        match begin_part(&self.rt, self.folder.as_str(), self.is_made, name) {
+        match begin_output(&self.rt, self.folder.as_str(), self.is_made, name) {
             Ok(part) => {
                 self.is_made = true;
                 self.part = Some(part);

@@ -1,0 +1,173 @@
+// The program below `main`: its objects, its status, and what it says on standard error.
+ghost use Rattle.std.specs.Prelude.{◌≡◌, ◌==◌, ◌≤◌, ◌↔◌, false, IfOk};
+ghost use Rattle.std.specs.Process.{exit_status};
+ghost use Rattle.encode_cli.specs.Arguments.{texts, AreCommand};
+
+use crate::arguments::{FolderWords, places};
+use crate::run::run;
+use cine_ports::{Frames, NullOutputs, SteadyFrames};
+use std::alloc::AllocError;
+use std::process::ExitCode;
+use std::{fs, io};
+use system_ports::{FolderFrames, FolderOutputs, StdoutReport};
+
+/// What standard error says at the end of a run with this status, if anything.
+fn message(status: u8) -> Option<&'static str> {
+    match status {
+        2 => Some("usage: cinema encode SRC DST --profile 2k"),
+        3 => Some("source failed"),
+        4 => Some("output failed"),
+        5 => Some("report failed"),
+        6 => Some("out of memory"),
+        _ => None,
+    }
+}
+
+/// Runs over these frames, into the target folder if there is one, and returns the run's status.
+fn run_over<F: Frames>(
+    rt: &HostRuntime,
+    words: &[String],
+    frames: &mut F,
+    target: Option<String>,
+) -> Result<u8, AllocError>
+    requires working { F.has_failed frames.old ≡ false }
+    requires unlisted { (F.source frames.old).is_listed ≡ false }
+    ensures range { IfOk result (λ status. status ≤ 6) }
+    ensures command { IfOk result (λ status. AreCommand (texts words.now) ↔ (status ≡ 2 → ⊥)) }
+    ensures source_failed { IfOk result (λ status. F.has_failed frames.new ≡ (status == 3)) }
+{
+    let alloc = rt.alloc();
+    let mut report = StdoutReport::new(rt.clone()?);
+    match target {
+        Some(folder) => {
+            let mut outputs = FolderOutputs::new(rt.clone()?, folder);
+            Ok(run(alloc, words, frames, &mut outputs, &mut report))
+        }
+        None => {
+            let mut outputs = NullOutputs::new();
+            Ok(run(alloc, words, frames, &mut outputs, &mut report))
+        }
+    }
+}
+
+/// Runs over no frames at all, and returns the status of the run.
+fn run_over_none(rt: &HostRuntime, words: &[String]) -> Result<u8, AllocError>
+    ensures range { IfOk result (λ status. status ≤ 6) }
+    ensures command { IfOk result (λ status. AreCommand (texts words.now) ↔ (status ≡ 2 → ⊥)) }
+{
+    let mut frames = SteadyFrames::new(Vec::new(rt.alloc()));
+    run_over(rt, words, &mut frames, None)
+}
+
+/// Makes the objects that the words name, runs over them, and returns the status: that of the run,
+/// or 5 where standard output is closed.
+fn run_words(rt: &HostRuntime, words: &[String]) -> Result<u8, AllocError>
+    ensures range { IfOk result (λ status. status ≤ 6) }
+    ensures command { IfOk result (λ status. AreCommand (texts words.now) ↔ (status ≡ 2 → ⊥)) }
+{
+    let alloc = rt.alloc();
+    let Some(folders) = places(alloc, words)? else {
+        return run_over_none(rt, words);
+    };
+    let FolderWords {
+        source,
+        target,
+        suffix,
+    } = folders;
+    let Some(folder) = source else {
+        return run_over_none(rt, words);
+    };
+    // Where standard output is closed, the next opened file would take its place.
+    if fs::metadata(rt, "/dev/stdout").is_err() {
+        return Ok(5);
+    }
+    let mut frames = FolderFrames::new(rt.clone()?, folder, suffix);
+    run_over(rt, words, &mut frames, target)
+}
+
+/// Says on standard error what a status means, and makes it the exit status.
+fn end(rt: &HostRuntime, status: u8) -> ExitCode
+    ensures { exit_status result ≡ status }
+{
+    if let Some(text) = message(status) {
+        let _ = eprintln!(rt; "{text}");
+    }
+    ExitCode::from(status)
+}
+
+/// Runs over what the words after the program's name say, and returns the exit status: that of the
+/// run, 2 where the words can't be read, and 6 where memory runs out.
+pub fn run_program(rt: &HostRuntime, words: io::Result<Vec<String>>) -> ExitCode
+    ensures range { exit_status result ≤ 6 }
+    // Words that are the command never end with 2, and others with 2 unless memory runs out.
+    ensures command { IfOk words
+        (λ words. AreCommand (texts words.items) → exit_status result ≡ 2 → ⊥) }
+    ensures no_command { IfOk words (λ words. (AreCommand (texts words.items) → ⊥) →
+        (exit_status result ≡ 2 → ⊥) → exit_status result ≡ 6) }
+{
+    match words {
+        Ok(words) => match run_words(rt, words.as_slice()) {
+            Ok(status) => end(rt, status),
+            Err(AllocError) => end(rt, 6),
+        },
+        Err(error) if error.kind() == io::ErrorKind::OutOfMemory => end(rt, 6),
+        Err(_) => end(rt, 2),
+    }
+}
+
+#[cfg(test)]
+mod tests {
+    use super::*;
+    use std::test::Fail;
+
+    /// A grey frame of one pixel.
+    const GREY: &[u8] = b"P6\n1 1\n4095\n\x08\x00\x08\x00\x08\x00";
+
+    /// The same with 16 bits a sample, which is refused.
+    const DEEP: &[u8] = b"P6\n1 1\n65535\n\x08\x00\x08\x00\x08\x00";
+
+    /// Words, and the exit status of the program for them.
+    const STATUSES: &[(&str, &str)] = &[
+        (
+            "encode test-status/src test-status/dst --profile 2k",
+            "ExitCode(unix_exit_status(0))",
+        ),
+        (
+            "encode test-status/deep test-status/dst --profile 2k",
+            "ExitCode(unix_exit_status(1))",
+        ),
+        (
+            "encode test-status/src test-status/dst --profile 3k",
+            "ExitCode(unix_exit_status(2))",
+        ),
+        (
+            "encode test-status/none test-status/dst --profile 2k",
+            "ExitCode(unix_exit_status(3))",
+        ),
+        (
+            "encode test-status/src test-status/src/a.ppm --profile 2k",
+            "ExitCode(unix_exit_status(4))",
+        ),
+    ];
+
+    #[test]
+    fn the_program_ends_with_the_status_of_its_run(rt: HostRuntime) -> Result<(), Fail> {
+        let alloc = rt.alloc();
+        let _ = fs::remove_dir_all(&rt, "test-status");
+        fs::create_dir_all(&rt, "test-status/src")?;
+        fs::create_dir_all(&rt, "test-status/deep")?;
+        fs::write(&rt, "test-status/src/a.ppm", GREY)?;
+        fs::write(&rt, "test-status/deep/a.ppm", DEEP)?;
+        for (line, want) in STATUSES {
+            let mut words = Vec::new(alloc);
+            for word in line.split_whitespace() {
+                words.push(String::from_str(alloc, word)?)?;
+            }
+            let code = run_program(&rt, Ok(words));
+            let shown = format!(in alloc; "{code:?}")?;
+            assert!(rt; shown.as_str() == *want, "{line}");
+        }
+        fs::remove_dir_all(&rt, "test-status")?;
+        Ok(())
+    }
+}
