@@ -4,18 +4,25 @@ use cine_nums::{Budget, Profile};
 
 #[test]
 fn holds_what_it_should(rt: HostRuntime) {
-    // The empty codestreams of a frame of one sample, and of a frame of 4096 by 2160.
-    let empty = Held::of(Profile::TwoK, 129, &[20, 20, 20]);
-    assert_eq!(rt;
-        (empty.frame, empty.inner, empty.component),
-        (191, 0, [20, 20, 20])
-    );
+    // The empty codestreams of a frame of one sample, of 2K and of 4K.
+    let small = Held::of(Profile::TwoK, 129, &[20, 20, 20]);
     let empty = Held::of(Profile::FourK, 169, &[20, 20, 20, 15, 15, 15]);
-    assert_eq!(rt;
-        (empty.frame, empty.inner, empty.component),
-        (276, 231, [20, 20, 20])
-    );
+    for (budget, two_k, four_k) in [
+        (Budget::Frame, 191, 276),
+        (Budget::Inner, 0, 231),
+        (Budget::C0, 20, 20),
+        (Budget::C1, 20, 20),
+        (Budget::C2, 20, 20),
+    ] {
+        assert_eq!(rt; small.bytes(budget), two_k);
+        assert_eq!(rt; empty.bytes(budget), four_k);
+    }
+}
 
+#[test]
+fn finds_the_outermost_broken_budget(rt: HostRuntime) {
+    // The empty codestream of a 4K frame of one sample.
+    let empty = Held::of(Profile::FourK, 169, &[20, 20, 20, 15, 15, 15]);
     let limits = Limits::of(Profile::FourK);
     assert_eq!(rt; limits.broken(&empty), None);
     for (frame, inner, component, broken) in [
