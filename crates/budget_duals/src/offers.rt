@@ -38,14 +38,15 @@ pub trait Offers {
         requires { block < blocks self.now }
         ensures { result ≡ offered self.now block };
 
-    /// Learns more of a block of which only a bound is known.
+    /// Learns more of a block. Where only a bound is known of its next step, less is unknown
+    /// afterwards.
     fn look(&mut self, block: u32)
         requires block { block < blocks self.old }
-        requires bound { IsAtMost (offered self.old block) }
         ensures blocks { blocks self.new ≡ blocks self.old }
         ensures done { done self.new ≡ done self.old }
         ensures left { left self.new ≡ left self.old }
-        ensures learns { unknown self.new block < unknown self.old block }
+        ensures learns { IsAtMost (offered self.old block) →
+            unknown self.new block < unknown self.old block }
         ensures keeps { (k : ℕ) → k < blocks self.old → unknown self.new k ≤ unknown self.old k }
         ensures others { (k : ℕ) → k ≢ block → offered self.new k ≡ offered self.old k };
 

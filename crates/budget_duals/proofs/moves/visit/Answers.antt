@@ -1,7 +1,8 @@
 -- A look changes only what is known.
-use Rattle.std.proofs.Common.{ℕ, List, ◌<◌, sym, subst}
+use Rattle.std.proofs.Common.{ℕ, List, ◌<◌, rules, sym, subst}
 use Rattle.rd_hulls.specs.declared.step.Step.{Step}
 use Rattle.allocation_bound.specs.Settled.{Budgets}
+use Rattle.budget_duals.specs.Offers.{IsAtMost}
 use Rattle.budget_duals.specs.Tree.{budgets_of}
 use Rattle.budget_duals.specs.Walking.{so_far, Walks, ahead}
 use Rattle.budget_duals.proofs.MoveLemmas.{ahead_looked}
@@ -18,7 +19,10 @@ pub returns-in-AtMost-clause-ahead : goal.returns-in-AtMost-clause-ahead
 returns-in-AtMost-clause-ahead g c =
     let blocks : ℕ = g.O.Offers.blocks c.args.offers.now in
     let left : ℕ → List Step = g.O.Offers.left c.args.offers.now in
+    let bound : IsAtMost (g.O.Offers.offered c.args.offers.now c.args.entry.now.block) =
+    subst IsAtMost c.requires.entry.offer (subst IsAtMost (sym c.in-AtMost.is) (search rules)) in
     subst (λ (l : ℕ → List Step). ahead blocks l c.args.closed.now (g.O.Offers.unknown c.look.new.self)
     < ahead blocks left c.args.closed.now (g.O.Offers.unknown c.args.offers.now)) (sym c.look.ensures.left)
     (ahead_looked blocks left c.args.closed.now (g.O.Offers.unknown c.args.offers.now) (g.O.Offers.unknown c.look.new.self)
-    c.args.entry.now.block c.requires.entry.inside c.look.ensures.learns c.look.ensures.keeps)
+    c.args.entry.now.block c.requires.entry.inside (c.look.ensures.learns bound)
+    c.look.ensures.keeps)
