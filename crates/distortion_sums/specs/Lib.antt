@@ -1,2 +1,3 @@
+pub mod Coefs
 pub mod Distortion
 pub mod Sums
