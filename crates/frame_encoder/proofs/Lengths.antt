@@ -23,8 +23,8 @@ use Rattle.packet_order.specs.Order.{packet_at, packets_of_row, packets_of_res, 
 use Rattle.packet_order.specs.Order.{packets_of_component, packets_of_part, ordered_packets}
 use Rattle.packet_order.specs.declared.packet.PacketId.{PacketId}
 use Rattle.packet_order.proofs.SortedLemmas.{packets_permuted}
-use Rattle.frame_encoder.specs.Packets.{written_body}
-use Rattle.frame_encoder.specs.Spell.{part_length, part_lengths, written_part, part_indexes}
+use Rattle.profile_reader.specs.Packets.{written_body}
+use Rattle.profile_reader.specs.Spell.{part_length, part_lengths, written_part, part_indexes}
 use Rattle.frame_encoder.specs.Empty.{nothing, empty_body, empty_part, empty_part_length}
 use Rattle.frame_encoder.specs.Empty.{empty_part_lengths}
 use Rattle.frame_encoder.specs.declared.order.EncodeOrder.{EncodeOrder}

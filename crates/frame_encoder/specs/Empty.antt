@@ -3,8 +3,8 @@ use Rattle.std.specs.Prelude.{ℕ, List}
 use Rattle.band_geometry.specs.declared.geometry.Geometry.{Geometry}
 use Rattle.band_geometry.specs.declared.places.BlockId.{BlockId}
 use Rattle.frame_coefficients.specs.BuiltIn.{built_in_steps}
-use Rattle.frame_encoder.specs.Packets.{BlockBytes, left_out, written_body}
-use Rattle.frame_encoder.specs.Spell.{part_length, part_lengths, written_part, spell}
+use Rattle.profile_reader.specs.Packets.{BlockBytes, left_out, written_body}
+use Rattle.profile_reader.specs.Spell.{part_length, part_lengths, written_part, spell}
 
 -- no code-block is included
 abbrev pub nothing : BlockId → BlockBytes

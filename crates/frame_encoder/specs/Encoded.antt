@@ -10,7 +10,7 @@ use Rattle.frame_coefficients.specs.BuiltIn.{built_in_steps}
 use Rattle.pnm_frames.specs.Picture.{Picture}
 use Rattle.frame_encoder.specs.declared.order.EncodeOrder.{EncodeOrder}
 use Rattle.frame_encoder.specs.declared.frame.Encoded.{Encoded}
-use Rattle.frame_encoder.specs.Spell.{part_lengths, spell}
+use Rattle.profile_reader.specs.Spell.{part_lengths, spell}
 use Rattle.frame_encoder.specs.Empty.{nothing}
 use Rattle.frame_encoder.specs.Distortion.{undecoded_distortion}
 

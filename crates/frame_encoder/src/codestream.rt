@@ -9,7 +9,7 @@ ghost use Rattle.cinema_markers.specs.MainHeader.{main_header_of};
 ghost use Rattle.frame_coefficients.specs.BuiltIn.{built_in_steps};
 ghost use Rattle.frame_encoder.specs.Empty.{empty_codestream, empty_part, empty_part_lengths};
 ghost use Rattle.frame_encoder.specs.Encoded.{IsComponentLength};
-ghost use Rattle.frame_encoder.specs.Spell.{header_for, part_indexes};
+ghost use Rattle.profile_reader.specs.Spell.{header_for, part_indexes};
 
 use crate::part::push_empty_part;
 use arrayvec::ArrayVec;

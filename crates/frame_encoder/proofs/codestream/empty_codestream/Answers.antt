@@ -6,7 +6,7 @@ use Rattle.frame_coefficients.specs.BuiltIn.{built_in_steps}
 use Rattle.frame_encoder.specs.Empty.{empty_part, empty_part_lengths, empty_codestream}
 use Rattle.frame_encoder.specs.Encoded.{IsComponentLength}
 use Rattle.tile_parts.specs.Head.{eoc}
-use Rattle.frame_encoder.specs.Spell.{spell, header_for, part_indexes}
+use Rattle.profile_reader.specs.Spell.{spell, header_for, part_indexes}
 use Rattle.frame_encoder.proofs.Lengths.{parts_short, components_short}
 use Rattle.frame_encoder.proofs.codestream.empty_codestream.Goals as goal
 

@@ -6,7 +6,7 @@ use Rattle.cine_nums.specs.declared.profile.Profile.{Profile}
 use Rattle.frame_coefficients.specs.BuiltIn.{built_in_steps}
 use Rattle.frame_encoder.specs.Empty.{nothing}
 use Rattle.frame_encoder.specs.Encoded.{IsComponentLength}
-use Rattle.frame_encoder.specs.Spell.{part_lengths, spell}
+use Rattle.profile_reader.specs.Spell.{part_lengths, spell}
 use Rattle.frame_encoder.proofs.frame.encode.Goals as goal
 
 pub returns : goal.returns

@@ -9,7 +9,7 @@ use Rattle.dz_quantiser.specs.declared.steps.StepSizes.{StepSizes}
 use Rattle.tile_parts.specs.Head.{eoc, part_head_bytes, part_head_of}
 use Rattle.cinema_markers.specs.MainHeader.{main_header_of}
 use Rattle.cinema_markers.specs.declared.header.MainHeader.{MainHeader}
-use Rattle.frame_encoder.specs.Packets.{BlockBytes, written_body}
+use Rattle.profile_reader.specs.Packets.{BlockBytes, written_body}
 
 -- the tile-parts, counted from 0
 abbrev pub part_indexes : Geometry → List ℕ
