@@ -193,8 +193,13 @@ bit_none word k e one =
 pub none_significant : (word : ℕ) → bit_and word 0x2490 ≡ 0
     → (bit_at word (4 + 3 * 0) ≡ 0) × (bit_at word (4 + 3 * 1) ≡ 0) ×
     (bit_at word (4 + 3 * 2) ≡ 0) × (bit_at word (4 + 3 * 3) ≡ 0)
-none_significant word e =
-    (bit_none word 4 e refl, bit_none word 7 e refl, bit_none word 10 e refl, bit_none word 13 e refl)
+none_significant word e = (
+  bit_none word 4 e refl,
+  bit_none word 7 e refl,
+  bit_none word 10 e refl,
+  bit_none word 13 e
+      refl,
+)
 
 pub unrefined : (s : Shape) (p i column stripe r : ℕ) (cells : List Cell) (word : ℕ) → r < 4 →
     IsIn s.width i column stripe r → 0 < s.width

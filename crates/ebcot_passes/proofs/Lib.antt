@@ -1,7 +1,9 @@
+pub mod AllPasses
 pub mod Blocks
 pub mod Cleanups
 pub mod ColumnLemmas
 pub mod Encoding
+pub mod Loading
 pub mod Places
 pub mod RunLemmas
 pub mod Scans

@@ -213,7 +213,8 @@ pub learn_place : (s : Shape) (cx p i : ℕ) (coefs l : List (ℕ × Bool)) (cel
     AreFlags s.width p (learned p b i cells) words
     → Stands encoder (l ++ (cx, b) ∷ [])
     → HoldsAfter coefs s p (place s cx p i cells) l words encoder
-learn_place s cx p i coefs l cells before words start encoder b inside same bit plain h flags stands =
+learn_place s cx p i coefs l cells before words start encoder b inside same bit plain h flags stands
+    =
     place_holds s cx p i coefs l cells words encoder b (done (learned p b i cells)) bit
     (after_case s p i cells b false same)
     (subst (λ (k : List (ℕ × Bool)). Holds s p (learned p b i cells) k words encoder)

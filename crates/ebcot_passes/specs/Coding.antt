@@ -20,6 +20,11 @@ pub record AreCoefs (w h : ℕ) (coefs : List (ℕ × Bool)) (grid : List ℕ) :
   pub below : (i : ℕ) → (coef_at coefs i).0 < 0x80000000
   pub each : (i : ℕ) → i < w * h → get_or grid (32 * (i / w) + i % w) 0 ≡ word_of (coef_at coefs i)
 
+-- the first n coefficients of a block w places wide stand in such a grid
+abbrev pub AreLoaded : ℕ → ℕ → List (ℕ × Bool) → List ℕ → Type 0
+AreLoaded w n coefs grid =
+    (i : ℕ) → i < n → get_or grid (32 * (i / w) + i % w) 0 ≡ word_of (coef_at coefs i)
+
 -- the significance contexts of a band, by the bits of eight neighbours
 abbrev pub AreContexts : Orient → List ℕ → Type 0
 AreContexts orient table = (k : ℕ) → k < 512 → get_or table k 0 ≡ neighbour_context orient k

@@ -6,10 +6,14 @@ ghost use Rattle.mq_coder.specs.Mark.{IsMarkOf};
 ghost use Rattle.mq_coder.specs.declared.mark.Mark.{Mark};
 ghost use Rattle.ebcot_contexts.specs.Contexts.{Shape};
 ghost use Rattle.ebcot_contexts.specs.Meaning.{symbols_of};
+ghost use Rattle.codeblock_views.specs.Magnitudes.{block_planes};
+ghost use Rattle.distortion_sums.specs.Coefs.{coefs_of};
 ghost use Rattle.ebcot_passes.specs.Coding.{AreCoefs};
 
+use crate::load::grid_of;
 use crate::passes::code_next;
 use cine_nums::Orient;
+use codeblock_views::Coefs;
 use flag_words::{blank, significance_contexts};
 use mq_coder::{Contexts, Encoder, Mark};
 
@@ -73,6 +77,24 @@ impl BlockCoder {
         }
     }
 
+    /// A block with no pass coded, in a band of orientation `orient`: its coefficients are copied.
+    /// `planes` is the number of its bit-planes, at least 1.
+    pub fn load<C: Coefs>(block: &C, orient: Orient, planes: u8) -> BlockCoder
+        requires planes { planes ≡ block_planes (C.cells block.now) }
+        requires some_planes { 1 ≤ planes }
+        ensures loads { (s : Shape) (buffer : List ℕ) →
+            s.orient ≡ orient → s.width ≡ C.columns block.now → s.height ≡ C.rows block.now →
+            s.planes ≡ planes → IsAfter (coefs_of (C.cells block.now)) s 0 result buffer }
+        ensures passes { result.passes ≡ 0 }
+        ensures planes { result.planes ≡ planes }
+        ensures count { result.mark.count ≡ 0 }
+    {
+        let grid = grid_of(block);
+        let width = block.width() as usize;
+        let height = block.height() as usize;
+        BlockCoder::begin(orient, width, height, u32::from(planes), &grid)
+    }
+
     /// Whether the block has a further pass: it has three for each bit-plane, less two.
     pub fn has_more(&self) -> bool
         ensures { IsTrue result ↔ (self.now.passes + 2 < 3 * self.now.planes) }
@@ -105,6 +127,8 @@ impl BlockCoder {
         ensures later { (coefs : List (ℕ × Bool)) (s : Shape) (k : ℕ) (later : List (ℕ × Bool)) →
             IsAfter coefs s k self.old bytes.old →
             result.count + 1 ≤ length (code (symbols_of coefs s (suc k) ++ later)) }
+        // bytes that were put out never get fewer
+        ensures grows { self.old.mark.count ≤ result.count }
         // the marks of the passes before stand as they did
         ensures marks { (m : Mark) (symbols : List (ℕ × Bool)) → m.count ≤ self.old.mark.count →
             IsMarkOf m bytes.old symbols → IsMarkOf m bytes.new symbols }

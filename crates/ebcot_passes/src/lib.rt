@@ -12,7 +12,10 @@
 
 mod block;
 mod cleanup;
+mod coded;
+mod coder;
 mod columns;
+mod load;
 mod passes;
 mod place;
 mod rows;
@@ -21,3 +24,5 @@ mod stripes;
 mod tests;
 
 pub use block::BlockCoder;
+pub use coded::{BlockCode, CodedPass};
+pub use coder::code;

@@ -3,8 +3,12 @@ ghost use Rattle.std.specs.Prelude.{◌≡◌, length};
 
 use super::*;
 use arrayvec::ArrayVec;
+use band_geometry::Rect;
 use cine_nums::Orient;
+use codeblock_views::{BlockView, CoefPlane};
+use dz_quantiser::Coef;
 use mq_coder::{Mark, ending};
+use std::test::Fail;
 
 /// A block that lies at the left of a grid, of which the first places of its first column are
 /// given.
@@ -29,7 +33,7 @@ fn code_passes(block: &mut BlockCoder, bytes: &mut [u8; 16384], passes: u32) -> 
 }
 
 /// The ended code at a mark, of at most 8 bytes.
-fn code_at(mark: &Mark, bytes: &[u8; 16384]) -> ArrayVec<u8, 8> {
+fn code_at(mark: &Mark, bytes: &[u8]) -> ArrayVec<u8, 8> {
     let ended = ending(mark);
     let mut all = ArrayVec::new();
     for byte in bytes.iter().take(ended.kept as usize) {
@@ -72,4 +76,53 @@ fn goes_on_after_each_pass(rt: HostRuntime) {
     assert_eq!(rt; code_at(&early, &bytes).as_slice(), [0x03].as_slice());
     assert_eq!(rt; code_at(&late, &bytes).as_slice(), [0x04].as_slice());
     assert!(rt; !block.has_more());
+}
+
+/// The ended code of a block after so many of its passes, and no byte where it has fewer.
+fn code_after(coded: &BlockCode, passes: usize, bytes: &[u8]) -> ArrayVec<u8, 8> {
+    for (k, pass) in coded.passes.as_slice().iter().enumerate() {
+        if k + 1 == passes {
+            return code_at(&pass.mark, bytes);
+        }
+    }
+    ArrayVec::new()
+}
+
+#[test]
+fn codes_all_passes(rt: HostRuntime) -> Result<(), Fail> {
+    let mut plane = CoefPlane::new(rt.alloc(), 1, 1)?;
+    plane.cells[0] = Coef::new(64, false);
+    let whole = Rect {
+        x: 0,
+        y: 0,
+        width: 1,
+        height: 1,
+    };
+    let block = BlockView::of(&plane, whole);
+    let mut bytes = [0; 77312];
+    let coded = code(&block, Orient::HH, &mut bytes);
+    assert_eq!(rt; (coded.planes, coded.passes.len()), (7, 19));
+    for (passes, code) in [(1, 0x03), (5, 0x03), (6, 0x04), (19, 0x04)] {
+        assert_eq!(rt;
+            code_after(&coded, passes, &bytes).as_slice(),
+            [code].as_slice()
+        );
+    }
+    Ok(())
+}
+
+#[test]
+fn codes_no_pass_of_zeros(rt: HostRuntime) -> Result<(), Fail> {
+    let plane = CoefPlane::new(rt.alloc(), 3, 3)?;
+    let whole = Rect {
+        x: 0,
+        y: 0,
+        width: 3,
+        height: 3,
+    };
+    let block = BlockView::of(&plane, whole);
+    let mut bytes = [0; 77312];
+    let coded = code(&block, Orient::HL, &mut bytes);
+    assert_eq!(rt; (coded.planes, coded.passes.len()), (0, 0));
+    Ok(())
 }

@@ -20,7 +20,8 @@ returns-then-words-n-eq1226833920-clause-codes g =
     let word : ℕ = get_or words n 0 in
     let all = all_touched word g.if-words-n-eq1226833920.true in
     let held = own_held s p n cells l words _ h in
-    let own = own_word s.width p col.a at stripe 0 n g.args.j cells words word col.first held.flags in
+    let own = own_word s.width p col.a at stripe 0 n g.args.j cells words word col.first held.flags
+    in
     let open_place = touched_uncoded s p col.a at stripe 0 cells word
     (omega arith) col.first.place col.first.some own all.0 in
     plain_column coefs s p is col.a col.b col.c col.d
@@ -71,9 +72,12 @@ returns-clause-codes g = λ s at stripe is coefs l cells col contexts a settled 
 
 pub returns-clause-goes_on : goal.returns-clause-goes_on
 returns-clause-goes_on g =
-    then_on g.args.encoder.now g.cleanup_row-third.new.encoder g.cleanup_row-fourth.new.encoder 30 6 36 (omega arith)
-    (then_on g.args.encoder.now g.cleanup_row-second.new.encoder g.cleanup_row-third.new.encoder 24 6 30 (omega arith)
-    (then_on g.args.encoder.now g.cleanup_row-first.new.encoder g.cleanup_row-second.new.encoder 18 6 24 (omega arith)
+    then_on g.args.encoder.now g.cleanup_row-third.new.encoder g.cleanup_row-fourth.new.encoder 30 6
+    36 (omega arith)
+    (then_on g.args.encoder.now g.cleanup_row-second.new.encoder g.cleanup_row-third.new.encoder 24
+    6 30 (omega arith)
+    (then_on g.args.encoder.now g.cleanup_row-first.new.encoder g.cleanup_row-second.new.encoder 18
+    6 24 (omega arith)
     (then_on g.args.encoder.now g.code_head-word.new.encoder g.cleanup_row-first.new.encoder 12 6 18
     (omega arith)
     g.code_head-word.ensures.goes_on g.cleanup_row-first.ensures.goes_on)

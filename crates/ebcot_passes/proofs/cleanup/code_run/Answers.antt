@@ -24,7 +24,8 @@ returns-then-row-ge4-clause-codes g = λ s column stripe xa xb xc xd coefs l cel
     let long = h.long in
     let few = g.zeros_before-row.ensures.few in
     let many : 4 ≤ row = g.if-row-ge4.true in
-    let is = g.zeros_before-row.ensures.zeros s.width s.height column stripe n xa xb xc xd coefs rows a
+    let is = g.zeros_before-row.ensures.zeros s.width s.height column stripe n xa xb xc xd coefs
+    rows a
     (omega arith) (omega arith) (omega arith) (omega arith) in
     let no_ones = no_answers coefs p xa xb xc xd row is many in
     let bit : nat_lt row 4 ≡ false = le-ltb row 4 many in
@@ -50,7 +51,8 @@ returns-clause-codes g = λ s column stripe xa xb xc xd coefs l cells rows new a
     let id = new.in_fourth in
     let long = h.long in
     let low : row < 4 = g.if-row-ge4.false in
-    let is = g.zeros_before-row.ensures.zeros s.width s.height column stripe n xa xb xc xd coefs rows a
+    let is = g.zeros_before-row.ensures.zeros s.width s.height column stripe n xa xb xc xd coefs
+    rows a
     (omega arith) (omega arith) (omega arith) (omega arith) in
     let bit : nat_lt row 4 ≡ true = lt-ltb row 4 low in
     let q : List (ℕ × Bool) = (17, true) ∷ (18, nat_le 2 row) ∷ (18, row % 2 == 1) ∷ [] in
@@ -68,7 +70,8 @@ returns-clause-codes g = λ s column stripe xa xb xc xd coefs l cells rows new a
     let pick = picked s.width p column stripe row n g.args.j xa xb xc xd cells rows new low in
     let inside = pick.inside in
     let long' = held.long in
-    let word = row_word s.width s.height i column stripe row n g.args.j _ coefs g.args.grid.now pick.at a (omega arith) (omega arith) in
+    let word = row_word s.width s.height i column stripe row n g.args.j _ coefs g.args.grid.now
+    pick.at a (omega arith) (omega arith) in
     head_holds coefs s p xa xb xc xd cells l _ _ row _ _ _ _
     (own_answers coefs p xa xb xc xd) is low
     (g.code_sign.ensures.codes s p i column stripe g.args.j coefs (l ++ q) known pick.at inside
@@ -79,7 +82,10 @@ returns-clause-goes_on g =
     then_on g.args.encoder.now g.put-3.new.self g.code_sign.new.encoder 9 3 12 (omega arith)
     (then_on g.args.encoder.now g.put-2.new.self g.put-3.new.self 6 3 9 (omega arith)
     (then_on g.args.encoder.now g.put.new.self g.put-2.new.self 3 3 6 (omega arith)
-    (put_on g.args.encoder.now g.put.new.self g.put.ensures.grows g.put.ensures.three g.put.ensures.fixed g.put.ensures.room g.put.ensures.same_reference)
-    (put_on g.put.new.self g.put-2.new.self g.put-2.ensures.grows g.put-2.ensures.three g.put-2.ensures.fixed g.put-2.ensures.room g.put-2.ensures.same_reference))
-    (put_on g.put-2.new.self g.put-3.new.self g.put-3.ensures.grows g.put-3.ensures.three g.put-3.ensures.fixed g.put-3.ensures.room g.put-3.ensures.same_reference))
+    (put_on g.args.encoder.now g.put.new.self g.put.ensures.grows g.put.ensures.three
+    g.put.ensures.fixed g.put.ensures.room g.put.ensures.same_reference)
+    (put_on g.put.new.self g.put-2.new.self g.put-2.ensures.grows g.put-2.ensures.three
+    g.put-2.ensures.fixed g.put-2.ensures.room g.put-2.ensures.same_reference))
+    (put_on g.put-2.new.self g.put-3.new.self g.put-3.ensures.grows g.put-3.ensures.three
+    g.put-3.ensures.fixed g.put-3.ensures.room g.put-3.ensures.same_reference))
     g.code_sign.ensures.goes_on

@@ -35,17 +35,25 @@ pub returns-clause-codes : goal.returns-clause-codes
 returns-clause-codes c = λ s at stripe is coefs l cells col a h.
     let p : ℕ = c.args.p in
     let h0 = own_held s p c.args.n cells l c.args.words.now _ h in
-    let h1 = c.refinement_row-first.ensures.codes s col.a at stripe c.args.n coefs _ _ c.args.words.now col.first a h0 in
-    let h2 = c.refinement_row-second.ensures.codes s col.b at stripe c.args.n coefs _ _ c.args.words.now col.second a h1 in
-    let h3 = c.refinement_row-third.ensures.codes s col.c at stripe c.args.n coefs _ _ c.args.words.now col.third a h2 in
-    let h4 = c.refinement_row-fourth.ensures.codes s col.d at stripe c.args.n coefs _ _ c.args.words.now col.fourth a h3 in
-    rows_hold coefs s p refinement is col.a col.b col.c col.d cells l _ _ col.places h1.long h2.long h3.long h4
+    let h1 = c.refinement_row-first.ensures.codes s col.a at stripe c.args.n coefs _ _
+    c.args.words.now col.first a h0 in
+    let h2 = c.refinement_row-second.ensures.codes s col.b at stripe c.args.n coefs _ _
+    c.args.words.now col.second a h1 in
+    let h3 = c.refinement_row-third.ensures.codes s col.c at stripe c.args.n coefs _ _
+    c.args.words.now col.third a h2 in
+    let h4 = c.refinement_row-fourth.ensures.codes s col.d at stripe c.args.n coefs _ _
+    c.args.words.now col.fourth a h3 in
+    rows_hold coefs s p refinement is col.a col.b col.c col.d cells l _ _ col.places h1.long h2.long
+    h3.long h4
 
 pub returns-clause-goes_on : goal.returns-clause-goes_on
 returns-clause-goes_on c =
-    then_on c.args.encoder.now c.refinement_row-third.new.encoder c.refinement_row-fourth.new.encoder 9 3 12 (omega arith)
-    (then_on c.args.encoder.now c.refinement_row-second.new.encoder c.refinement_row-third.new.encoder 6 3 9 (omega arith)
-    (then_on c.args.encoder.now c.refinement_row-first.new.encoder c.refinement_row-second.new.encoder 3 3 6 (omega arith)
+    then_on c.args.encoder.now c.refinement_row-third.new.encoder
+    c.refinement_row-fourth.new.encoder 9 3 12 (omega arith)
+    (then_on c.args.encoder.now c.refinement_row-second.new.encoder
+    c.refinement_row-third.new.encoder 6 3 9 (omega arith)
+    (then_on c.args.encoder.now c.refinement_row-first.new.encoder
+    c.refinement_row-second.new.encoder 3 3 6 (omega arith)
     c.refinement_row-first.ensures.goes_on c.refinement_row-second.ensures.goes_on)
     c.refinement_row-third.ensures.goes_on)
     c.refinement_row-fourth.ensures.goes_on

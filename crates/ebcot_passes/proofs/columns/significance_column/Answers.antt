@@ -64,17 +64,25 @@ pub returns-clause-codes : goal.returns-clause-codes
 returns-clause-codes c = λ s at stripe is coefs l cells col contexts a h.
     let p : ℕ = c.args.p in
     let h0 = own_held s p c.args.n cells l c.args.words.now _ h in
-    let h1 = c.significance_row-first.ensures.codes s col.a at stripe coefs _ _ col.first contexts a h0 in
-    let h2 = c.significance_row-second.ensures.codes s col.b at stripe coefs _ _ col.second contexts a h1 in
-    let h3 = c.significance_row-third.ensures.codes s col.c at stripe coefs _ _ col.third contexts a h2 in
-    let h4 = c.significance_row-fourth.ensures.codes s col.d at stripe coefs _ _ col.fourth contexts a h3 in
-    rows_hold coefs s p significance is col.a col.b col.c col.d cells l _ _ col.places h1.long h2.long h3.long h4
+    let h1 = c.significance_row-first.ensures.codes s col.a at stripe coefs _ _ col.first contexts a
+    h0 in
+    let h2 = c.significance_row-second.ensures.codes s col.b at stripe coefs _ _ col.second contexts
+    a h1 in
+    let h3 = c.significance_row-third.ensures.codes s col.c at stripe coefs _ _ col.third contexts a
+    h2 in
+    let h4 = c.significance_row-fourth.ensures.codes s col.d at stripe coefs _ _ col.fourth contexts
+    a h3 in
+    rows_hold coefs s p significance is col.a col.b col.c col.d cells l _ _ col.places h1.long
+    h2.long h3.long h4
 
 pub returns-clause-goes_on : goal.returns-clause-goes_on
 returns-clause-goes_on c =
-    then_on c.args.encoder.now c.significance_row-third.new.encoder c.significance_row-fourth.new.encoder 18 6 24 (omega arith)
-    (then_on c.args.encoder.now c.significance_row-second.new.encoder c.significance_row-third.new.encoder 12 6 18 (omega arith)
-    (then_on c.args.encoder.now c.significance_row-first.new.encoder c.significance_row-second.new.encoder 6 6 12 (omega arith)
+    then_on c.args.encoder.now c.significance_row-third.new.encoder
+    c.significance_row-fourth.new.encoder 18 6 24 (omega arith)
+    (then_on c.args.encoder.now c.significance_row-second.new.encoder
+    c.significance_row-third.new.encoder 12 6 18 (omega arith)
+    (then_on c.args.encoder.now c.significance_row-first.new.encoder
+    c.significance_row-second.new.encoder 6 6 12 (omega arith)
     c.significance_row-first.ensures.goes_on c.significance_row-second.ensures.goes_on)
     c.significance_row-third.ensures.goes_on)
     c.significance_row-fourth.ensures.goes_on

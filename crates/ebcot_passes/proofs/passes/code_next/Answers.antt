@@ -31,7 +31,8 @@ returns-then-turn-eq0-clause-codes g = λ s coefs wide high planes contexts a bl
     let after = g.significance_pass.ensures.codes s coefs (symbols_of coefs s k)
     (known_after coefs s k) wide high contexts a held in
     subst (λ (v : ℕ). Holds s v (known_after coefs s (suc k))
-    (symbols_of coefs s (suc k)) g.significance_pass.new.words g.significance_pass.new.encoder) plane
+    (symbols_of coefs s (suc k)) g.significance_pass.new.words g.significance_pass.new.encoder)
+    plane
     (next_holds coefs s k (g.args.planes - 1 - (k + 2) / 3) significance _ _
     (kind_significance k turn) (sym plane) after)
 

@@ -6,7 +6,8 @@ use Rattle.ebcot_passes.proofs.passes.significance_pass.Goals as goal
 
 pub loop-stripe-init : goal.loop-stripe-init
 loop-stripe-init g = record {
-  codes = λ s coefs k cells wide high contexts a h. pass_begun significance s g.args.p coefs k g.args.width cells _ _ h;
+  codes = λ s coefs k cells wide high contexts a h. pass_begun significance s g.args.p coefs k
+      g.args.width cells _ _ h;
   goes_on = stays g.args.encoder.now (768 * 0);
 }
 
@@ -22,5 +23,6 @@ loop-stripe-preserved g = record {
 
 pub returns-clause-codes : goal.returns-clause-codes
 returns-clause-codes g = λ s coefs l cells wide high contexts a h.
-    pass_done significance s g.args.p coefs l g.args.width g.args.height g.loop-stripe.stripe cells _ _ wide high (omega arith)
+    pass_done significance s g.args.p coefs l g.args.width g.args.height g.loop-stripe.stripe cells
+    _ _ wide high (omega arith)
     (g.loop-stripe.invariant.codes s coefs l cells wide high contexts a h)

@@ -22,7 +22,8 @@ returns-then-one-clause-codes c = λ s i column stripe j coefs l cells at inside
 pub returns-then-one-clause-goes_on : goal.returns-then-one-clause-goes_on
 returns-then-one-clause-goes_on c =
     then_on c.args.encoder.now c.put.new.self c.code_sign.new.encoder 3 3 6 (omega arith)
-    (put_on c.args.encoder.now c.put.new.self c.put.ensures.grows c.put.ensures.three c.put.ensures.fixed c.put.ensures.room c.put.ensures.same_reference)
+    (put_on c.args.encoder.now c.put.new.self c.put.ensures.grows c.put.ensures.three
+    c.put.ensures.fixed c.put.ensures.room c.put.ensures.same_reference)
     c.code_sign.ensures.goes_on
 
 pub returns-else-one-clause-codes : goal.returns-else-one-clause-codes

@@ -5,9 +5,12 @@ use Rattle.ebcot_passes.proofs.place.code_sign.Goals as goal
 pub returns-clause-codes : goal.returns-clause-codes
 returns-clause-codes c = λ s p i column stripe j coefs l cells at inside negative none h.
     let some = at.place.column_is in
-    let left = word_before s.width p i column stripe c.args.r c.args.n j cells c.args.words.now c.args.word at (omega arith) h.flags in
-    let own = own_word s.width p i column stripe c.args.r c.args.n j cells c.args.words.now c.args.word at h.flags in
-    let right = word_after s.width p i column stripe c.args.r c.args.n j cells c.args.words.now c.args.word at h.flags in
+    let left = word_before s.width p i column stripe c.args.r c.args.n j cells c.args.words.now
+    c.args.word at (omega arith) h.flags in
+    let own = own_word s.width p i column stripe c.args.r c.args.n j cells c.args.words.now
+    c.args.word at h.flags in
+    let right = word_after s.width p i column stripe c.args.r c.args.n j cells c.args.words.now
+    c.args.word at h.flags in
     sign_holds s p i coefs l cells _ _ _ _ c.sign_context-cx.result c.args.negative inside negative
     (c.sign_context-cx.ensures.context s p i column stripe cells at.place at.some left own right) h
     (c.become_significant.ensures s.width p i column stripe cells

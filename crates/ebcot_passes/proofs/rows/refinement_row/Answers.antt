@@ -8,9 +8,11 @@ use Rattle.ebcot_passes.proofs.Places.{visited, untouched_inside, learn_place, k
 use Rattle.ebcot_passes.proofs.Places.{unsigned_of}
 use Rattle.ebcot_passes.proofs.rows.refinement_row.Goals as goal
 
-pub returns-then-not-codes_refinement-clause-codes : goal.returns-then-not-codes_refinement-clause-codes
+pub returns-then-not-codes_refinement-clause-codes :
+    goal.returns-then-not-codes_refinement-clause-codes
 returns-then-not-codes_refinement-clause-codes c = λ s i column stripe n coefs l cells words at a h.
-    let own = own_word s.width c.args.p i column stripe c.args.r n c.args.j cells words c.args.word at h.flags in
+    let own = own_word s.width c.args.p i column stripe c.args.r n c.args.j cells words c.args.word
+    at h.flags in
     not_visited refinement s c.args.p i coefs l cells _ _
     (sym (c.codes_refinement.ensures s c.args.p i column stripe cells at.place at.some own)
     ∙ c.if-not-codes_refinement.true) h
@@ -18,7 +20,8 @@ returns-then-not-codes_refinement-clause-codes c = λ s i column stripe n coefs 
 pub returns-clause-codes : goal.returns-clause-codes
 returns-clause-codes c = λ s i column stripe n coefs l cells words at a h.
     let p : ℕ = c.args.p in
-    let own = own_word s.width p i column stripe c.args.r n c.args.j cells words c.args.word at h.flags in
+    let own = own_word s.width p i column stripe c.args.r n c.args.j cells words c.args.word at
+    h.flags in
     let coded : is_coded refinement s p i cells ≡ true =
     sym (c.codes_refinement.ensures s p i column stripe cells at.place at.some own)
     ∙ c.if-not-codes_refinement.false in
@@ -26,7 +29,8 @@ returns-clause-codes c = λ s i column stripe n coefs l cells words at a h.
     let inside = untouched_inside p i cells parts.0 in
     let long = h.long in
     let within : i < s.width * s.height = omega arith in
-    let coef = coef_word s.width s.height i column stripe c.args.r n c.args.j coefs c.args.grid.now at a within in
+    let coef = coef_word s.width s.height i column stripe c.args.r n c.args.j coefs c.args.grid.now
+    at a within in
     let b : Bool = bit_of (coef_at coefs i).0 p in
     let bit = word_bit _ p (coef_at coefs i) coef c.requires.plane in
     let stands = subst (λ (v : Bool). Stands c.put.new.self

@@ -7,7 +7,8 @@ use Rattle.ebcot_passes.proofs.stripes.significance_stripe.Goals as goal
 pub loop-x-preserved : goal.loop-x-preserved
 loop-x-preserved c = record {
   codes = λ s coefs k cells same inside contexts a h.
-      stripe_on significance s c.args.p coefs k c.args.width c.args.stripe c.loop-x.x cells _ _ same c.loop-x-test.true
+      stripe_on significance s c.args.p coefs k c.args.width c.args.stripe c.loop-x.x cells _ _ same
+      c.loop-x-test.true
       c.requires.width c.requires.stripe inside
       (λ is col. c.significance_column.ensures.codes s (suc c.loop-x.x)
       (suc c.args.stripe) is coefs _ _ col contexts a

@@ -19,7 +19,8 @@ returns-clause-few c = λ coefs s k h.
     let planes = h.planes_are in
     let passes = h.passes_are in
     let stands = c.resume-encoder.ensures.stands (symbols_of coefs s k) h.left in
-    let held = c.code_next.ensures.codes s coefs h.wide h.high h.planes_are h.contexts h.grid h.blank
+    let held = c.code_next.ensures.codes s coefs h.wide h.high h.planes_are h.contexts h.grid
+    h.blank
     (subst (λ (v : ℕ). AreFlags s.width (plane_before s v)
     (known_after coefs s v) c.args.self.now.words) (sym passes) h.flags)
     (subst (λ (v : ℕ). Stands c.resume-encoder.result (symbols_of coefs s v))
@@ -36,6 +37,7 @@ returns-clause-marks c = λ m symbols within h.
     let on = c.code_next.ensures.goes_on in
     let count = c.resume-encoder.ensures.count in
     let kept : IsMarkOf m c.code_next.new.encoder.bytes.now symbols =
-    mark_kept m c.resume-encoder.result.bytes.now c.code_next.new.encoder.bytes.now c.resume-encoder.result.registers.count symbols
+    mark_kept m c.resume-encoder.result.bytes.now c.code_next.new.encoder.bytes.now
+    c.resume-encoder.result.registers.count symbols
     on.fixed (omega arith) (c.resume-encoder.ensures.marks m symbols within h) in
     search rules

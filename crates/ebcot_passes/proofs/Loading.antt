@@ -1,0 +1,115 @@
+-- The coefficients of a block, copied into a grid.
+use Rattle.std.proofs.Common.{ℕ, suc, ◌+◌, ◌*◌, ◌/◌, ◌%◌, ◌^◌, ◌<◌, ◌≤◌, ◌≡◌, ◌≢◌, inl, inr, Bool, true, false}
+use Rattle.std.proofs.Common.{List, [], ◌∷◌, length, get_or, set, refl, sym, ap, ◌∙◌, subst, arith}
+use Rattle.std.specs.Prelude.{if◌then◌else◌}
+use Rattle.std.proofs.lemmas.Bool.{cases_eq, cases_lt}
+use Rattle.std.proofs.lemmas.List.{get_or-set_same, get_or-set_other, get_or_past, length-map}
+use Rattle.std.proofs.lemmas.List.Elements.{All-get_or}
+use Rattle.std.proofs.lemmas.Nat.{div-mul-add, div-add-mod', mod_below, mul-le}
+use Rattle.std.proofs.Math.ListN.{get_or-map}
+use Rattle.dz_quantiser.specs.Coefficient.{Coefficient, zero_coefficient}
+use Rattle.dz_quantiser.specs.Coefficient.{word_of as coefficient_word}
+use Rattle.cine_nums.specs.Bits.{bit_len}
+use Rattle.cine_nums.proofs.BitLength.{bit_len-within}
+use Rattle.codeblock_views.specs.Magnitudes.{AreSmall, largest, block_planes}
+use Rattle.ebcot_contexts.specs.Cells.{coef_at, number}
+use Rattle.distortion_sums.specs.Coefs.{coefs_of}
+use Rattle.ebcot_passes.specs.Coding.{word_of, AreCoefs, AreLoaded}
+
+-- a coefficient of the list
+pub coef_is : (cells : List Coefficient) (i : ℕ) →
+    coef_at (coefs_of cells) i
+    ≡ ((get_or cells i zero_coefficient).magnitude, (get_or cells i zero_coefficient).negative)
+coef_is cells i = get_or-map (λ (q : Coefficient). (q.magnitude, q.negative)) cells i
+    zero_coefficient
+
+same_word : (m : ℕ) (b : Bool) →
+    m + (if b then 2147483648 else 0) ≡ m + 0x80000000 * number b
+same_word m true = refl
+same_word m false = refl
+
+-- both forms of its word
+pub word_is : (cells : List Coefficient) (i : ℕ) →
+    coefficient_word (get_or cells i zero_coefficient) ≡ word_of (coef_at (coefs_of cells) i)
+word_is cells i =
+    same_word (get_or cells i zero_coefficient).magnitude (get_or cells i zero_coefficient).negative
+    ∙ ap word_of (sym (coef_is cells i))
+
+small_at : (cells : List Coefficient) (i : ℕ) → AreSmall cells →
+    (get_or cells i zero_coefficient).magnitude < 2 ^ 20
+small_at cells i small = elim (cases_lt i (length cells)) [
+  | inl lt ↦ All-get_or (λ q. q.magnitude < 2 ^ 20) cells i zero_coefficient lt small
+  | inr le ↦ subst (λ (q : Coefficient). q.magnitude < 2 ^ 20)
+      (sym (get_or_past cells i zero_coefficient le)) (omega arith)
+]
+
+pub small_below : (cells : List Coefficient) (i : ℕ) → AreSmall cells →
+    (coef_at (coefs_of cells) i).0 < 0x80000000
+small_below cells i small =
+    let l = small_at cells i small in
+    let e : (coef_at (coefs_of cells) i).0 ≡ (get_or cells i zero_coefficient).magnitude =
+    ap (λ (c : ℕ × Bool). c.0) (coef_is cells i) in
+    omega arith
+
+-- two places of a block have two words of the grid
+apart : (w i n : ℕ) → 0 < w → w ≤ 32 → i ≢ n →
+    32 * (i / w) + i % w ≢ 32 * (n / w) + n % w
+apart w i n some narrow other e =
+    let a : i % w < w = mod_below i w some in
+    let b : n % w < w = mod_below n w some in
+    let r : i % w ≡ n % w = omega arith in
+    let q : i / w ≡ n / w = omega arith in
+    other (sym (div-add-mod' i w) ∙ ap (λ (v : ℕ). v * w + i % w) q
+    ∙ ap (λ (v : ℕ). n / w * w + v) r ∙ div-add-mod' n w)
+
+-- one place more
+pub loaded_next : (w y x : ℕ) (coefs : List (ℕ × Bool)) (grid : List ℕ) (word : ℕ) → x < w →
+    w ≤ 32 → 32 * y + x < length grid → word ≡ word_of (coef_at coefs (y * w + x))
+    → AreLoaded w (y * w + x) coefs grid
+    → AreLoaded w (y * w + (x + 1)) coefs (set grid (32 * y + x) word)
+loaded_next w y x coefs grid word column narrow inside is before =
+    let n : ℕ = y * w + x in
+    let q : n / w ≡ y = div-mul-add y w x column in
+    let r : n % w ≡ x =
+    (let e : n / w * w + n % w ≡ n = div-add-mod' n w in
+    let f : n / w * w ≡ y * w = ap (λ (v : ℕ). v * w) q in omega arith) in
+    let index : 32 * (n / w) + n % w ≡ 32 * y + x = omega arith in
+    λ i within. elim (cases_eq i n) [
+      | inl e ↦ subst (λ (v : ℕ). get_or (set grid (32 * y + x) word) (32 * (v / w) + v % w) 0
+          ≡ word_of (coef_at coefs v)) (sym e)
+          (ap (λ (k : ℕ). get_or (set grid (32 * y + x) word) k 0) index
+          ∙ get_or-set_same grid (32 * y + x) word 0 inside ∙ is)
+      | inr other ↦
+          let distinct : 32 * (i / w) + i % w ≢ 32 * y + x =
+          (λ e. apart w i n (omega arith) narrow other (e ∙ sym index)) in
+          get_or-set_other grid (32 * y + x) (32 * (i / w) + i % w) word 0 distinct
+          ∙ before i (omega arith)
+    ]
+
+-- all rows of a block
+pub loaded_block : (w h y : ℕ) (cells : List Coefficient) (grid : List ℕ) → h ≤ y →
+    length cells ≡ h * w → AreSmall cells → AreLoaded w (y * w) (coefs_of cells) grid
+    → AreCoefs w h (coefs_of cells) grid
+loaded_block w h y cells grid all long small loaded =
+    let fits : h * w ≤ y * w = mul-le h w y w all (omega arith) in
+    let turned : h * w ≡ w * h = omega arith in
+    record {
+      long = length-map cells (λ (q : Coefficient). (q.magnitude, q.negative)) ∙ long ∙ turned;
+      below = λ i. small_below cells i small;
+      each = λ i within. loaded i (omega arith);
+    }
+
+-- a block has few bit-planes
+largest_few : (cells : List Coefficient) → AreSmall cells → largest cells < 2 ^ 20
+largest_few [] small = omega arith
+largest_few (q ∷ qs) small =
+    let rest : largest qs < 2 ^ 20 = largest_few qs (λ k d within. small (suc k) d (omega arith)) in
+    let first : q.magnitude < 2 ^ 20 = small 0 q (omega arith) in
+    omega arith
+
+pub planes_few : (cells : List Coefficient) (planes : ℕ) → planes ≡ block_planes cells →
+    AreSmall cells → planes ≤ 20
+planes_few cells planes is small =
+    let few : bit_len (largest cells) ≤ 20 =
+    bit_len-within (largest cells) 20 (largest_few cells small) in
+    subst (λ (v : ℕ). v ≤ 20) (sym is) few
