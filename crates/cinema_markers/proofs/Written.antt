@@ -15,7 +15,7 @@ use Rattle.cinema_markers.specs.Words.{IsSpelled, IsStep, MainFits, HasMain, mai
 use Rattle.cinema_markers.specs.declared.header.MainHeader.{MainHeader}
 
 -- the bytes
-written_bytes : (m : MainHeader) (p : Profile) →
+pub written_bytes : (m : MainHeader) (p : Profile) →
     segment soc ++ segment (siz m.profile m.width m.height) ++ segment (cod m.levels m.flag)
     ++ segment (qcd m.levels m.steps)
     ++ segment (poc p m.levels) ++ segment (tlm m.parts.items)
@@ -81,7 +81,7 @@ pub record CanWrite (m : MainHeader) : Type 0 where
   pub parts : length m.parts.items ≡ parts_of m.profile
   pub short : (k : ℕ) → get_or m.parts.items k 0 < 4294967296
 
-written_fits : (m : MainHeader) → CanWrite m →
+pub written_fits : (m : MainHeader) → CanWrite m →
     All (λ step. 1 ≤ planes_of m.steps.guard step.exponent) m.steps.bands.items →
     MainFits m (written_words m)
 written_fits m can planes =

@@ -13,7 +13,7 @@ use Rattle.pnm_frames.specs.Grammar.{IsHeader, Spells}
 use Rattle.pnm_frames.specs.Reading.{white_at, digits_at, number_at, ranged_at, magic_at, header_at}
 use Rattle.pnm_frames.specs.Reading.{samples_at, frame_of}
 use Rattle.pnm_frames.proofs.Files.{frame-read}
-use Rattle.pnm_frames.proofs.Laws.{IsWhite, IsDigit, whole-header, length-header}
+use Rattle.pnm_frames.proofs.Grammar.{IsWhite, IsDigit, whole-header, length-header}
 use Rattle.pnm_frames.proofs.Planes.{length-interleaved, All-interleaved}
 use Rattle.pnm_frames.proofs.Samples.{samples-again}
 
@@ -150,7 +150,8 @@ pub frame-again : (limits : SizeLimits) (p : Picture) (bytes : List ℕ) → Fit
     Spells bytes p → frame_of limits bytes ≡ Ok p
 frame-again limits p bytes fits spelled =
     let parts = spelled.0 in
-    let head = parts-again limits p.width p.height parts.end parts.gap1 parts.width parts.gap2 parts.height parts.gap3 parts.maxval (raster p)
+    let head = parts-again limits p.width p.height parts.end parts.gap1 parts.width parts.gap2
+        parts.height parts.gap3 parts.maxval (raster p)
     fits.has_width fits.width fits.has_height fits.height spelled.1 in
     let y : length p.y ≡ length p.x = fits.y.size ∙ sym fits.x.size in
     let z : length p.z ≡ length p.x = fits.z.size ∙ sym fits.x.size in

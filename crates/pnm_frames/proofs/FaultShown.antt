@@ -27,8 +27,8 @@ use Rattle.pnm_frames.proofs.FaultTold.{Ranges, ranges-width, ranges-height, ran
 use Rattle.pnm_frames.proofs.FaultTold.{Fit}
 use Rattle.pnm_frames.proofs.FirstFault.{picture}
 use Rattle.pnm_frames.proofs.Files.{header-fault, raster-fault}
-use Rattle.pnm_frames.proofs.Laws.{IsWhite, IsDigit, Choice, Sizes, refused, behind_white, step3}
-use Rattle.pnm_frames.proofs.Laws.{step5, step7}
+use Rattle.pnm_frames.proofs.Grammar.{IsWhite, IsDigit, Choice, Sizes, refused, behind_white, step3}
+use Rattle.pnm_frames.proofs.Grammar.{step5, step7}
 
 -- ---- white space and digits that are allowed
 
@@ -154,16 +154,17 @@ ranged-in : (low high at n place : ℕ) (rest behind : List ℕ) (k : ℕ)
 ranged-in low high at n place rest behind k next number above below =
     rw (ranged-again low high at n place rest behind above below number) refl
 
-number-reads : (before gap digits front : List ℕ) (end n place : ℕ) (behind : List ℕ) → IsGap gap →
-    IsNumeral digits n → is_white end ≡ true → front ≡ before ++ (gap ++ digits) →
-    place ≡ length front + 1 → place ≤ header_limit
+number-reads : (before gap digits prefix : List ℕ) (end n place : ℕ) (behind : List ℕ) → IsGap gap →
+    IsNumeral digits n → is_white end ≡ true → prefix ≡ before ++ (gap ++ digits) →
+    place ≡ length prefix + 1 → place ≤ header_limit
     → (first : ℕ) × (rest : List ℕ) × (is_white first ≡ true) ×
-    (front ++ (end ∷ behind) ≡ before ++ (first ∷ rest)) ×
+    (prefix ++ (end ∷ behind) ≡ before ++ (first ∷ rest)) ×
     (number_at (length before + 1) rest ≡ Ok (n, place, behind))
-number-reads before [] digits front end n place behind is_gap numeral white whole here room =
+number-reads before [] digits prefix end n place behind is_gap numeral white whole here room =
     absurd (omega (arith, is_gap.some))
-number-reads before (g ∷ gap) digits front end n place behind is_gap numeral white whole here room =
-    let len : length front ≡ length before + (1 + length gap + length digits) =
+number-reads before (g ∷ gap) digits prefix end n place behind is_gap numeral white whole here room
+    =
+    let len : length prefix ≡ length before + (1 + length gap + length digits) =
     rw whole (simp length-append (omega arith)) in (
       g,
       gap ++ (digits ++ (end ∷ behind)),
@@ -256,43 +257,45 @@ reads-at limits (suc (suc (suc k))) before end rest few has white room = absurd 
 
 -- ---- the faults of a header
 
-open-parts : (limits : SizeLimits) (k : ℕ) (before gap digits front rest : List ℕ)
+open-parts : (limits : SizeLimits) (k : ℕ) (before gap digits prefix rest : List ℕ)
     (fault : FrameFault) → k < 3 → HasNumbers limits k before → IsGap gap → All IsDigit digits →
-    front ≡ before ++ (gap ++ digits)
-    → length front ≤ header_limit → StopsAt (length front) rest fault →
-    header_at limits (front ++ rest) ≡ Err fault
-open-parts limits k before [] digits front rest fault few has is_gap ascii whole room stops =
+    prefix ≡ before ++ (gap ++ digits)
+    → length prefix ≤ header_limit → StopsAt (length prefix) rest fault →
+    header_at limits (prefix ++ rest) ≡ Err fault
+open-parts limits k before [] digits prefix rest fault few has is_gap ascii whole room stops =
     absurd (omega (arith, is_gap.some))
-open-parts limits k before (g ∷ gap) digits front rest fault few has is_gap ascii whole room stops =
-    let len : length front ≡ length before + (1 + length gap + length digits) =
+open-parts limits k before (g ∷ gap) digits prefix rest fault few has is_gap ascii whole room stops
+    =
+    let len : length prefix ≡ length before + (1 + length gap + length digits) =
     rw whole (simp length-append (omega arith)) in
-    let same : front ++ rest ≡ before ++ (g ∷ (gap ++ (digits ++ rest))) =
+    let same : prefix ++ rest ≡ before ++ (g ∷ (gap ++ (digits ++ rest))) =
     rw whole (simp append_assoc) in
     let here = reads-at limits k before g (gap ++ (digits ++ rest)) few has
     (is_gap.white 0 0 (omega arith)) (omega (arith, len, room)) in
     ap (header_at limits) same ∙ header-stops limits k (before ++ (g ∷ (gap ++ (digits ++ rest))))
     (length before + 1) (gap ++ (digits ++ rest)) fault here
-    (number-stops gap digits (length before + 1) (length front) rest fault
+    (number-stops gap digits (length before + 1) (length prefix) rest fault
     (λ k d lt. is_gap.white (suc k) d (omega (arith, lt))) ascii
     (omega (arith, len)) room stops)
 
-open-stops : (limits : SizeLimits) (front rest : List ℕ) (fault : FrameFault) →
-    IsOpen limits front → length front ≤ header_limit → StopsAt (length front) rest fault →
-    frame_of limits (front ++ rest) ≡ Err fault
-open-stops limits front rest fault so_far room stops =
-    header-fault limits (front ++ rest) fault
-    (open-parts limits so_far.numbers so_far.before so_far.gap so_far.digits front rest fault so_far.few so_far.begins so_far.is_gap so_far.ascii so_far.whole room stops)
+open-stops : (limits : SizeLimits) (prefix rest : List ℕ) (fault : FrameFault) →
+    IsOpen limits prefix → length prefix ≤ header_limit → StopsAt (length prefix) rest fault →
+    frame_of limits (prefix ++ rest) ≡ Err fault
+open-stops limits prefix rest fault so_far room stops =
+    header-fault limits (prefix ++ rest) fault
+    (open-parts limits so_far.numbers so_far.before so_far.gap so_far.digits prefix rest fault
+        so_far.few so_far.begins so_far.is_gap so_far.ascii so_far.whole room stops)
 
 range-shown : (limits : SizeLimits) (k : ℕ) (bytes : List ℕ) → k < 3 → IsOutOfRange limits k bytes →
     frame_of limits bytes ≡ Err (range_fault k)
 range-shown limits k bytes few out =
-    let front : List ℕ = out.0 in
+    let prefix : List ℕ = out.0 in
     let end : ℕ = out.1 in
     let rest : List ℕ = out.2 in
     let n : ℕ = out.3 in
     let number = out.5 in
-    let read = number-reads number.before number.gap number.digits front end n
-    (length front + 1) rest number.is_gap number.number out.7 number.whole refl
+    let read = number-reads number.before number.gap number.digits prefix end n
+    (length prefix + 1) rest number.is_gap number.number out.7 number.whole refl
     (omega (arith, out.8)) in
     let earlier : length number.before + 1 ≤ header_limit =
     omega (
@@ -306,7 +309,7 @@ range-shown limits k bytes few out =
     header-fault limits bytes (range_fault k)
     (ap (header_at limits) (out.4 ∙ read.3)
     ∙ header-out limits k (number.before ++ (read.0 ∷ read.1)) (length number.before + 1) n
-    (length front + 1) read.1 rest here read.4 out.6)
+    (length prefix + 1) read.1 rest here read.4 out.6)
 
 magic-fault : (limits : SizeLimits) (bytes : List ℕ) (fault : FrameFault) →
     magic_at 0 bytes ≡ Err fault → header_at limits bytes ≡ Err fault
@@ -335,10 +338,10 @@ magic-ends bytes (inl none) = rw none refl
 magic-ends bytes (inr (inl one)) = rw one refl
 magic-ends bytes (inr (inr two)) = rw two refl
 
-magic-bad : (front : List ℕ) (b : ℕ) (rest : List ℕ) → front ≡ 80 ∷ 54 ∷ [] → is_white b ≡ false →
-    magic_at 0 (front ++ (b ∷ rest)) ≡ Err (BadHeader (length front))
+magic-bad : (prefix : List ℕ) (b : ℕ) (rest : List ℕ) → prefix ≡ 80 ∷ 54 ∷ [] → is_white b ≡ false →
+    magic_at 0 (prefix ++ (b ∷ rest)) ≡ Err (BadHeader (length prefix))
 unfolding magic_at
-magic-bad front b rest magic other = rw (magic, other) refl
+magic-bad prefix b rest magic other = rw (magic, other) refl
 
 -- ---- the faults of a raster
 
@@ -371,18 +374,20 @@ samples-all (pair ∷ samples) at rest all =
     (λ k d lt. all (suc k) d (omega (arith, lt))) in
     ((256 * pair.high + pair.low) ∷ on.0, rw (test, on.1) refl)
 
-header-read : (limits : SizeLimits) (front rest : List ℕ) (has : HasSamples limits front)
-    → (at : ℕ) × (header_at limits (front ++ rest)
+header-read : (limits : SizeLimits) (prefix rest : List ℕ) (has : HasSamples limits prefix)
+    → (at : ℕ) × (header_at limits (prefix ++ rest)
     ≡ Ok ((has.width, has.height), at, flat_map pair_bytes has.samples ++ rest)) ×
-    (length front ≡ at + 2 * length has.samples)
-header-read limits front rest has =
+    (length prefix ≡ at + 2 * length has.samples)
+header-read limits prefix rest has =
     let parts = has.parts in
     let left : List ℕ = flat_map pair_bytes has.samples ++ rest in
-    let head = parts-again limits has.width has.height parts.end parts.gap1 parts.width parts.gap2 parts.height parts.gap3 parts.maxval left
-    has.within.some_width has.within.width_in_limits has.within.some_height has.within.height_in_limits has.is_header in
-    let same : front ++ rest ≡ header parts ++ left = ap (λ (t : List ℕ). t ++ rest) has.whole
+    let head = parts-again limits has.width has.height parts.end parts.gap1 parts.width parts.gap2
+        parts.height parts.gap3 parts.maxval left
+    has.within.some_width has.within.width_in_limits has.within.some_height
+        has.within.height_in_limits has.is_header in
+    let same : prefix ++ rest ≡ header parts ++ left = ap (λ (t : List ℕ). t ++ rest) has.whole
     ∙ append_assoc (header parts) (flat_map pair_bytes has.samples) rest in
-    let len : length front ≡ length (header parts) + length (flat_map pair_bytes has.samples) =
+    let len : length prefix ≡ length (header parts) + length (flat_map pair_bytes has.samples) =
     ap (λ (t : List ℕ). length t) has.whole
     ∙ length-append (header parts) (flat_map pair_bytes has.samples) in (
       head.0,
@@ -391,27 +396,27 @@ header-read limits front rest has =
       omega (arith, len, head.2, length-pairs has.samples),
     )
 
-lacks-stops : (limits : SizeLimits) (front rest : List ℕ) (fault : FrameFault) →
-    LacksSamples limits front → ((n : ℕ) → samples_at (suc n) (length front) rest ≡ Err fault) →
-    frame_of limits (front ++ rest) ≡ Err fault
-lacks-stops limits front rest fault lacks stops =
+lacks-stops : (limits : SizeLimits) (prefix rest : List ℕ) (fault : FrameFault) →
+    LacksSamples limits prefix → ((n : ℕ) → samples_at (suc n) (length prefix) rest ≡ Err fault) →
+    frame_of limits (prefix ++ rest) ≡ Err fault
+lacks-stops limits prefix rest fault lacks stops =
     let has = lacks.0 in
-    let head = header-read limits front rest has in
+    let head = header-read limits prefix rest has in
     let total : ℕ = 3 * (has.width * has.height) in
     let left : ℕ = total - (length has.samples + 1) in
     let count : total ≡ length has.samples + suc left = omega (arith, lacks.1) in
-    raster-fault limits (front ++ rest) has.width has.height head.0
+    raster-fault limits (prefix ++ rest) has.width has.height head.0
     (flat_map pair_bytes has.samples ++ rest) fault head.1
     (ap (λ (n : ℕ). samples_at n head.0 (flat_map pair_bytes has.samples ++ rest)) count
-    ∙ samples-over has.samples (suc left) head.0 (length front) rest fault has.fit head.2
+    ∙ samples-over has.samples (suc left) head.0 (length prefix) rest fault has.fit head.2
     (stops left))
 
-trailing-shown : (limits : SizeLimits) (front : List ℕ) (b : ℕ) (rest : List ℕ) →
-    HasAllSamples limits front → frame_of limits (front ++ (b ∷ rest)) ≡ Err TrailingBytes
+trailing-shown : (limits : SizeLimits) (prefix : List ℕ) (b : ℕ) (rest : List ℕ) →
+    HasAllSamples limits prefix → frame_of limits (prefix ++ (b ∷ rest)) ≡ Err TrailingBytes
 unfolding frame_of
-trailing-shown limits front b rest all =
+trailing-shown limits prefix b rest all =
     let has = all.0 in
-    let head = header-read limits front (b ∷ rest) has in
+    let head = header-read limits prefix (b ∷ rest) has in
     let samples = samples-all has.samples head.0 (b ∷ rest) has.fit in
     rw (head.1, ← all.1, samples.1) refl
 
@@ -441,16 +446,16 @@ large-stops n at pair rest large = rw (lt-leb (256 * pair.high + pair.low) 4095 
 
 -- ---- the file
 
-bad-shown : (limits : SizeLimits) (front : List ℕ) (b : ℕ) (rest : List ℕ) →
-    length front < header_limit → is_white b ≡ false →
-    (front ≡ 80 ∷ 54 ∷ []) ⊎ (IsOpen limits front × (is_ascii_digit b ≡ false))
-    → frame_of limits (front ++ (b ∷ rest)) ≡ Err (BadHeader (length front))
-bad-shown limits front b rest early other (inl magic) =
-    magic-shown limits (front ++ (b ∷ rest)) (BadHeader (length front))
-    (magic-bad front b rest magic other)
-bad-shown limits front b rest early other (inr so_far) =
-    open-stops limits front (b ∷ rest) (BadHeader (length front)) so_far.0 (omega (arith, early))
-    (stops-bad (length front) b rest early other so_far.1)
+bad-shown : (limits : SizeLimits) (prefix : List ℕ) (b : ℕ) (rest : List ℕ) →
+    length prefix < header_limit → is_white b ≡ false →
+    (prefix ≡ 80 ∷ 54 ∷ []) ⊎ (IsOpen limits prefix × (is_ascii_digit b ≡ false))
+    → frame_of limits (prefix ++ (b ∷ rest)) ≡ Err (BadHeader (length prefix))
+bad-shown limits prefix b rest early other (inl magic) =
+    magic-shown limits (prefix ++ (b ∷ rest)) (BadHeader (length prefix))
+    (magic-bad prefix b rest magic other)
+bad-shown limits prefix b rest early other (inr so_far) =
+    open-stops limits prefix (b ∷ rest) (BadHeader (length prefix)) so_far.0 (omega (arith, early))
+    (stops-bad (length prefix) b rest early other so_far.1)
 
 short-shown : (limits : SizeLimits) (bytes : List ℕ) → IsUnfinished limits bytes →
     frame_of limits bytes ≡ Err (Truncated (length bytes))
@@ -465,12 +470,12 @@ short-shown limits bytes (inr (inr (inr (inl so_far)))) =
     ∙ open-stops limits bytes [] (Truncated (length bytes)) so_far.0 (omega (arith, so_far.1))
     (stops-short (length bytes) so_far.1)
 short-shown limits bytes (inr (inr (inr (inr half)))) =
-    let front : List ℕ = half.0 in
+    let prefix : List ℕ = half.0 in
     let last : List ℕ = half.1 in
-    let len : length front + length last ≡ length bytes =
-    sym (ap (λ (t : List ℕ). length t) half.2 ∙ length-append front last) in
-    ap (frame_of limits) half.2 ∙ lacks-stops limits front last (Truncated (length bytes)) half.3
-    (λ n. half-stops n (length front) last half.4 ∙ ap (λ (k : ℕ). refused (Truncated k)) len)
+    let len : length prefix + length last ≡ length bytes =
+    sym (ap (λ (t : List ℕ). length t) half.2 ∙ length-append prefix last) in
+    ap (frame_of limits) half.2 ∙ lacks-stops limits prefix last (Truncated (length bytes)) half.3
+    (λ n. half-stops n (length prefix) last half.4 ∙ ap (λ (k : ℕ). refused (Truncated k)) len)
 
 pub fault-shown : (limits : SizeLimits) (bytes : List ℕ) (fault : FrameFault) →
     HasFault limits bytes fault → frame_of limits bytes ≡ Err fault

@@ -25,10 +25,10 @@ use Rattle.pnm_frames.specs.Reading.{Read, white_at, digits_at, number_at, range
 use Rattle.pnm_frames.specs.Reading.{magic_at, header_at, samples_at, ended, frame_of}
 use Rattle.pnm_frames.proofs.FirstFault.{Samples, with_sample, picture, behind_samples}
 use Rattle.pnm_frames.proofs.FirstFault.{behind_header}
-use Rattle.pnm_frames.proofs.Laws.{IsWhite, IsDigit, Point, Choice, Mark, Sizes, NumberRead}
-use Rattle.pnm_frames.proofs.Laws.{HeaderRead, chosen, value-is, no-value, refused, bind_ok}
-use Rattle.pnm_frames.proofs.Laws.{behind_white, judged, white-found, number-found, magic-found}
-use Rattle.pnm_frames.proofs.Laws.{header-found, gap-of, step1, step3, step5, step7}
+use Rattle.pnm_frames.proofs.Grammar.{IsWhite, IsDigit, Point, Choice, Mark, Sizes, NumberRead}
+use Rattle.pnm_frames.proofs.Grammar.{HeaderRead, chosen, value-is, no-value, refused, bind_ok}
+use Rattle.pnm_frames.proofs.Grammar.{behind_white, judged, white-found, number-found, magic-found}
+use Rattle.pnm_frames.proofs.Grammar.{header-found, gap-of, step1, step3, step5, step7}
 
 fault-is : {B : Type 0} (d e : FrameFault) → refused {A = B} d ≡ refused e → d ≡ e
 fault-is d e h = cc
@@ -44,39 +44,40 @@ no-fault e = cc
 
 -- ---- a header that hasn't ended
 
-open-late : (limits : SizeLimits) (front rest : List ℕ) (at : ℕ) → IsOpen limits front →
-    length front ≡ at → at ≤ header_limit → header_limit ≤ at →
-    HasFault limits (front ++ rest) HeaderTooLong
-open-late limits front rest at so_far len room late =
-    (front, rest, refl, omega (arith, len, room, late), so_far)
+open-late : (limits : SizeLimits) (prefix rest : List ℕ) (at : ℕ) → IsOpen limits prefix →
+    length prefix ≡ at → at ≤ header_limit → header_limit ≤ at →
+    HasFault limits (prefix ++ rest) HeaderTooLong
+open-late limits prefix rest at so_far len room late =
+    (prefix, rest, refl, omega (arith, len, room, late), so_far)
 
-open-short : (limits : SizeLimits) (front : List ℕ) (at : ℕ) → IsOpen limits front →
-    length front ≡ at → at < header_limit → HasFault limits (front ++ []) (Truncated at)
-open-short limits front at so_far len early =
-    rw (append-nil front) (len, inr (inr (inr (inl (so_far, omega (arith, len, early))))))
+open-short : (limits : SizeLimits) (prefix : List ℕ) (at : ℕ) → IsOpen limits prefix →
+    length prefix ≡ at → at < header_limit → HasFault limits (prefix ++ []) (Truncated at)
+open-short limits prefix at so_far len early =
+    rw (append-nil prefix) (len, inr (inr (inr (inl (so_far, omega (arith, len, early))))))
 
-open-bad : (limits : SizeLimits) (front : List ℕ) (at b : ℕ) (rest : List ℕ) → IsOpen limits front →
-    length front ≡ at → at < header_limit → is_white b ≡ false → is_ascii_digit b ≡ false
-    → HasFault limits (front ++ (b ∷ rest)) (BadHeader at)
-open-bad limits front at b rest so_far len early other bad =
-    (front, b, rest, refl, len, early, (other, inr (so_far, bad)))
+open-bad : (limits : SizeLimits) (prefix : List ℕ) (at b : ℕ) (rest : List ℕ) → IsOpen limits prefix
+    →
+    length prefix ≡ at → at < header_limit → is_white b ≡ false → is_ascii_digit b ≡ false
+    → HasFault limits (prefix ++ (b ∷ rest)) (BadHeader at)
+open-bad limits prefix at b rest so_far len early other bad =
+    (prefix, b, rest, refl, len, early, (other, inr (so_far, bad)))
 
 told : (limits : SizeLimits) (bytes : List ℕ) (d e : FrameFault) → d ≡ e → HasFault limits bytes d →
     HasFault limits bytes e
 told limits bytes d e same has = subst (λ (x : FrameFault). HasFault limits bytes x) same has
 
 -- a file that ends in a header, or a header that is as long as the longest
-open-ends : {A : Type 0} (limits : SizeLimits) (front : List ℕ) (at : ℕ) (e : FrameFault) →
-    IsOpen limits front → length front ≡ at → at ≤ header_limit
+open-ends : {A : Type 0} (limits : SizeLimits) (prefix : List ℕ) (at : ℕ) (e : FrameFault) →
+    IsOpen limits prefix → length prefix ≡ at → at ≤ header_limit
     → cond (nat_lt at header_limit) (refused {A = A} (Truncated at)) (refused HeaderTooLong)
-    ≡ refused e → HasFault limits (front ++ []) e
-open-ends limits front at e so_far len room h =
+    ≡ refused e → HasFault limits (prefix ++ []) e
+open-ends limits prefix at e so_far len room h =
     elim (chosen (nat_lt at header_limit) (refused (Truncated at)) (refused HeaderTooLong)
     (refused e) h) [
-      | inl early ↦ told limits (front ++ []) (Truncated at) e (fault-is (Truncated at) e early.1)
-          (open-short limits front at so_far len (ltb-true at header_limit early.0))
-      | inr late ↦ told limits (front ++ []) HeaderTooLong e (fault-is HeaderTooLong e late.1)
-          (open-late limits front [] at so_far len room (ltb-false at header_limit late.0))
+      | inl early ↦ told limits (prefix ++ []) (Truncated at) e (fault-is (Truncated at) e early.1)
+          (open-short limits prefix at so_far len (ltb-true at header_limit early.0))
+      | inr late ↦ told limits (prefix ++ []) HeaderTooLong e (fault-is HeaderTooLong e late.1)
+          (open-late limits prefix [] at so_far len room (ltb-false at header_limit late.0))
     ]
 
 -- ---- white space
@@ -165,23 +166,24 @@ digits-told limits k n at before gap digits [] e few begins is_gap ascii len roo
     open-ends limits (before ++ (gap ++ digits)) at e
     (open-digits limits k before gap digits few begins is_gap ascii) len room h
 digits-told limits k n at before gap digits (b ∷ bytes) e few begins is_gap ascii len room h =
-    let front : List ℕ = before ++ (gap ++ digits) in
+    let prefix : List ℕ = before ++ (gap ++ digits) in
     let on : Read ℕ = digits_at (10 * n + (b - 48)) (suc at) bytes in
     let inner : Read ℕ = cond (is_ascii_digit b) on (Err (BadHeader at)) in
     let so_far = open-digits limits k before gap digits few begins is_gap ascii in
     elim (chosen (nat_lt at header_limit) (cond (is_white b) (Ok (n, suc at, bytes)) inner)
     (Err HeaderTooLong) (Err e) h) [
       | inr late ↦
-          told limits (front ++ (b ∷ bytes)) HeaderTooLong e (fault-is HeaderTooLong e late.1)
-          (open-late limits front (b ∷ bytes) at so_far len room (ltb-false at header_limit late.0))
+          told limits (prefix ++ (b ∷ bytes)) HeaderTooLong e (fault-is HeaderTooLong e late.1)
+          (open-late limits prefix (b ∷ bytes) at so_far len room
+              (ltb-false at header_limit late.0))
       | inl early ↦
           let lt : at < header_limit = ltb-true at header_limit early.0 in
           elim (chosen (is_white b) (Ok (n, suc at, bytes)) inner (Err e) early.1) [
             | inl white ↦ absurd (no-fault white.1)
             | inr other ↦ elim (chosen (is_ascii_digit b) on (Err (BadHeader at)) (Err e) other.1) [
-              | inr bad ↦ told limits (front ++ (b ∷ bytes)) (BadHeader at) e
+              | inr bad ↦ told limits (prefix ++ (b ∷ bytes)) (BadHeader at) e
                   (fault-is (BadHeader at) e bad.1)
-                  (open-bad limits front at b bytes so_far len lt other.0 bad.0)
+                  (open-bad limits prefix at b bytes so_far len lt other.0 bad.0)
               | inl more ↦
                   let longer : (before ++ (gap ++ (digits ++ (b ∷ [])))) ++ bytes
                   ≡ (before ++ (gap ++ digits)) ++ (b ∷ bytes) = simp append_assoc in
@@ -326,7 +328,8 @@ number-out limits k at bytes rest x here number out = (
   number.end,
   x.2,
   x.0,
-  whole-number here.before here.end number.gap number.digits number.end x.2 bytes rest here.whole number.parts,
+  whole-number here.before here.end number.gap number.digits number.end x.2 bytes rest here.whole
+      number.parts,
   record {
     before = here.before;
     gap = here.end ∷ number.gap;
@@ -380,7 +383,8 @@ read-on limits k low high at bytes rest next e x true true few here ranges numbe
           ranges.0 x.0 (leb-true low x.0 above) (leb-true x.0 high below),
         );
         white = number.ends;
-        whole = whole-number here.before here.end number.gap number.digits number.end x.2 bytes rest here.whole number.parts;
+        whole = whole-number here.before here.end number.gap number.digits number.end x.2 bytes rest
+            here.whole number.parts;
         place = omega (
           arith,
           here.place,
@@ -500,7 +504,8 @@ header-told limits bytes e h =
             | inr width ↦ elim (ranged-told limits 1 1 limits.height width.read.1 bytes width.read.2
                 (step5 width.n) e (omega arith) width.on (ranges-height limits) width.rest) [
                   | inl stops ↦ stops
-                  | inr height ↦ elim (ranged-told limits 2 4095 4095 height.read.1 bytes height.read.2
+                  | inr height ↦ elim (ranged-told limits 2 4095 4095 height.read.1 bytes
+                      height.read.2
                       (step7 width.n height.n) e (omega arith) height.on
                       (ranges-maxval limits) height.rest) [
                         | inl stops ↦ stops
@@ -515,9 +520,9 @@ header-told limits bytes e h =
 abbrev pub Fit : Pair → Type 0
 Fit pair = IsSample (pair_value pair)
 
-abbrev one-more : (limits : SizeLimits) (front : List ℕ) (read : HasSamples limits front)
-    (pair : Pair) → Fit pair → HasSamples limits (front ++ pair_bytes pair)
-one-more limits front read pair fits = record {
+abbrev one-more : (limits : SizeLimits) (prefix : List ℕ) (read : HasSamples limits prefix)
+    (pair : Pair) → Fit pair → HasSamples limits (prefix ++ pair_bytes pair)
+one-more limits prefix read pair fits = record {
   parts = read.parts;
   width = read.width;
   height = read.height;
@@ -531,32 +536,32 @@ one-more limits front read pair fits = record {
       (sym (flat_map-append pair_bytes read.samples (pair ∷ [])));
 }
 
-samples-told : (limits : SizeLimits) (front : List ℕ) (read : HasSamples limits front) (n at : ℕ)
+samples-told : (limits : SizeLimits) (prefix : List ℕ) (read : HasSamples limits prefix) (n at : ℕ)
     (bytes : List ℕ) (e : FrameFault) → length read.samples + n ≡ 3 * (read.width * read.height) →
-    length front ≡ at
-    → samples_at n at bytes ≡ Err e → HasFault limits (front ++ bytes) e
-samples-told limits front read zero at bytes e all len h = absurd (no-fault h)
-samples-told limits front read (suc n) at [] e all len h =
-    told limits (front ++ []) (Truncated at) e (fault-is (Truncated at) e h) (
-      omega (arith, len, length-append front []),
+    length prefix ≡ at
+    → samples_at n at bytes ≡ Err e → HasFault limits (prefix ++ bytes) e
+samples-told limits prefix read zero at bytes e all len h = absurd (no-fault h)
+samples-told limits prefix read (suc n) at [] e all len h =
+    told limits (prefix ++ []) (Truncated at) e (fault-is (Truncated at) e h) (
+      omega (arith, len, length-append prefix []),
       inr
-          (inr (inr (inr (front, [], refl, (read, omega (arith, all)), omega arith)))),
+          (inr (inr (inr (prefix, [], refl, (read, omega (arith, all)), omega arith)))),
     )
-samples-told limits front read (suc n) at (high ∷ []) e all len h =
-    told limits (front ++ (high ∷ [])) (Truncated (suc at)) e (fault-is (Truncated (suc at)) e h) (
-      omega (arith, len, length-append front (high ∷ [])),
+samples-told limits prefix read (suc n) at (high ∷ []) e all len h =
+    told limits (prefix ++ (high ∷ [])) (Truncated (suc at)) e (fault-is (Truncated (suc at)) e h) (
+      omega (arith, len, length-append prefix (high ∷ [])),
       inr
-          (inr (inr (inr (front, high ∷ [], refl, (read, omega (arith, all)), omega arith)))),
+          (inr (inr (inr (prefix, high ∷ [], refl, (read, omega (arith, all)), omega arith)))),
     )
-samples-told limits front read (suc n) at (high ∷ low ∷ bytes) e all len h =
+samples-told limits prefix read (suc n) at (high ∷ low ∷ bytes) e all len h =
     let pair : Pair = record { high = high; low = low } in
     let on = samples_at n (suc (suc at)) bytes in
     elim (chosen (nat_le (256 * high + low) 4095) (on >>= with_sample (256 * high + low))
     (Err (SampleTooLarge at)) (Err e) h) [
       | inr large ↦
-          told limits (front ++ (high ∷ low ∷ bytes)) (SampleTooLarge at) e
+          told limits (prefix ++ (high ∷ low ∷ bytes)) (SampleTooLarge at) e
           (fault-is (SampleTooLarge at) e large.1) (
-            front,
+            prefix,
             pair,
             bytes,
             refl,
@@ -570,10 +575,11 @@ samples-told limits front read (suc n) at (high ∷ low ∷ bytes) e all len h =
         | inl stops ↦
             let count : length (read.samples ++ (pair ∷ [])) + n ≡ 3 * (read.width * read.height) =
             omega (arith, all, length-append read.samples (pair ∷ [])) in
-            let more = one-more limits front read pair (leb-true (256 * high + low) 4095 fits.0) in
-            subst (λ (t : List ℕ). HasFault limits t e) (append_assoc front (pair_bytes pair) bytes)
-            (samples-told limits (front ++ pair_bytes pair) more n (suc (suc at)) bytes e count
-            (omega (arith, len, length-append front (pair_bytes pair))) stops)
+            let more = one-more limits prefix read pair (leb-true (256 * high + low) 4095 fits.0) in
+            subst (λ (t : List ℕ). HasFault limits t e)
+                (append_assoc prefix (pair_bytes pair) bytes)
+            (samples-told limits (prefix ++ pair_bytes pair) more n (suc (suc at)) bytes e count
+            (omega (arith, len, length-append prefix (pair_bytes pair))) stops)
       ]
     ]
 
@@ -625,18 +631,18 @@ no-samples limits bytes read head = record {
   whole = sym (append-nil (header head.parts));
 }
 
-end-told : (limits : SizeLimits) (front rest : List ℕ) (p : Picture) (e : FrameFault) →
-    HasAllSamples limits front → ended p rest ≡ Err e → HasFault limits (front ++ rest) e
-end-told limits front [] p e all h = absurd (no-fault h)
-end-told limits front (b ∷ rest) p e all h =
-    told limits (front ++ (b ∷ rest)) TrailingBytes e (fault-is TrailingBytes e h)
-    (front, b, rest, refl, all)
+end-told : (limits : SizeLimits) (prefix rest : List ℕ) (p : Picture) (e : FrameFault) →
+    HasAllSamples limits prefix → ended p rest ≡ Err e → HasFault limits (prefix ++ rest) e
+end-told limits prefix [] p e all h = absurd (no-fault h)
+end-told limits prefix (b ∷ rest) p e all h =
+    told limits (prefix ++ (b ∷ rest)) TrailingBytes e (fault-is TrailingBytes e h)
+    (prefix, b, rest, refl, all)
 
 -- a header and all its samples, and what is left after them
 pub record AllRead (limits : SizeLimits) (bytes rest : List ℕ) : Type 0 where
-  pub front : List ℕ
-  pub all : HasAllSamples limits front
-  pub whole : bytes ≡ front ++ rest
+  pub prefix : List ℕ
+  pub all : HasAllSamples limits prefix
+  pub whole : bytes ≡ prefix ++ rest
 
 all-read : (limits : SizeLimits) (bytes : List ℕ) (read : Sizes) (last : Samples) →
     header_at limits bytes ≡ Ok read →
@@ -655,7 +661,7 @@ all-read limits bytes read last head_is samples_are =
       whole = refl;
     } in
     record {
-      front = header head.parts ++ flat_map pair_bytes found.samples;
+      prefix = header head.parts ++ flat_map pair_bytes found.samples;
       all = (has, found.count);
       whole = head.whole ∙ ap (λ (t : List ℕ). header head.parts ++ t) found.whole
           ∙ sym (append_assoc (header head.parts) (flat_map pair_bytes found.samples) last.1);
@@ -680,7 +686,7 @@ frame-told limits bytes e h =
             | inr last ↦
                 let found = all-read limits bytes read last.0 goes.1 last.1 in
                 subst (λ (t : List ℕ). HasFault limits t e) (sym found.whole)
-                (end-told limits found.front last.0.1
+                (end-told limits found.prefix last.0.1
                 (picture read.0 last.0.0) e found.all last.2)
           ]
     ]
@@ -699,8 +705,8 @@ all-told limits bytes p h =
     (behind_samples read.0) p head.2 in
     let found = all-read limits bytes read last.0 head.1 last.1 in
     let none : last.0.1 ≡ [] = nothing-left last.0.1 (picture read.0 last.0.0) p last.2 in
-    let same : found.front ≡ bytes =
-    sym (found.whole ∙ ap (λ (t : List ℕ). found.front ++ t) none ∙ append-nil found.front) in
+    let same : found.prefix ≡ bytes =
+    sym (found.whole ∙ ap (λ (t : List ℕ). found.prefix ++ t) none ∙ append-nil found.prefix) in
     subst (λ (t : List ℕ). HasAllSamples limits t) same found.all
 
 picture-is : (p q : Picture) (rest : List ℕ) → ended p rest ≡ Ok q → p ≡ q

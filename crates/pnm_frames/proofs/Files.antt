@@ -12,11 +12,11 @@ pub header-fault : (limits : SizeLimits) (bytes : List ℕ) (fault : FrameFault)
 unfolding frame_of
 header-fault limits bytes fault head = rw head refl
 
-pub raster-fault : (limits : SizeLimits) (bytes : List ℕ) (w h at : ℕ) (front : List ℕ)
-    (fault : FrameFault) → header_at limits bytes ≡ Ok ((w, h), at, front)
-    → samples_at (3 * (w * h)) at front ≡ Err fault → frame_of limits bytes ≡ Err fault
+pub raster-fault : (limits : SizeLimits) (bytes : List ℕ) (w h at : ℕ) (prefix : List ℕ)
+    (fault : FrameFault) → header_at limits bytes ≡ Ok ((w, h), at, prefix)
+    → samples_at (3 * (w * h)) at prefix ≡ Err fault → frame_of limits bytes ≡ Err fault
 unfolding frame_of
-raster-fault limits bytes w h at front fault head samples = rw (head, samples) refl
+raster-fault limits bytes w h at prefix fault head samples = rw (head, samples) refl
 
 ended-fault : {A B : Type 0} (a : A) (b : B) (rest : List ℕ) (fault : FrameFault) →
     ended a rest ≡ Err fault → ended b rest ≡ Err fault
@@ -38,20 +38,21 @@ nothing = Ok tt
 abbrev pub empty : Unit {0}
 empty = tt
 
-pub end-fault : (limits : SizeLimits) (bytes : List ℕ) (w h at : ℕ) (front s rest : List ℕ)
-    (fault : FrameFault) → header_at limits bytes ≡ Ok ((w, h), at, front)
-    → samples_at (3 * (w * h)) at front ≡ Ok (s, rest) → nothing_in rest ≡ Err fault →
+pub end-fault : (limits : SizeLimits) (bytes : List ℕ) (w h at : ℕ) (prefix s rest : List ℕ)
+    (fault : FrameFault) → header_at limits bytes ≡ Ok ((w, h), at, prefix)
+    → samples_at (3 * (w * h)) at prefix ≡ Ok (s, rest) → nothing_in rest ≡ Err fault →
     frame_of limits bytes ≡ Err fault
 unfolding frame_of
-end-fault limits bytes w h at front s rest fault head samples last =
+end-fault limits bytes w h at prefix s rest fault head samples last =
     rw (head, samples) (ended-fault empty _ rest fault last)
 
 pub frame-read : (limits : SizeLimits) (bytes : List ℕ) (p : Picture) (w h at : ℕ)
-    (front rest : List ℕ) → p.width ≡ w → p.height ≡ h →
-    header_at limits bytes ≡ Ok ((w, h), at, front)
-    → samples_at (3 * (w * h)) at front ≡ Ok (interleaved p.x p.y p.z, rest) →
+    (prefix rest : List ℕ) → p.width ≡ w → p.height ≡ h →
+    header_at limits bytes ≡ Ok ((w, h), at, prefix)
+    → samples_at (3 * (w * h)) at prefix ≡ Ok (interleaved p.x p.y p.z, rest) →
     nothing_in rest ≡ nothing
     → length p.y ≡ length p.x → length p.z ≡ length p.x → frame_of limits bytes ≡ Ok p
 unfolding frame_of
-frame-read limits bytes p w h at front rest wide tall head samples last y z =
-    rw (head, samples, plane-x p.x p.y p.z y z, plane-y p.x p.y p.z y z, plane-z p.x p.y p.z y z, ← wide, ← tall) (ended-all empty empty p rest last)
+frame-read limits bytes p w h at prefix rest wide tall head samples last y z =
+    rw (head, samples, plane-x p.x p.y p.z y z, plane-y p.x p.y p.z y z, plane-z p.x p.y p.z y z, ←
+        wide, ← tall) (ended-all empty empty p rest last)

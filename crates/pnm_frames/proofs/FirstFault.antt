@@ -19,8 +19,8 @@ use Rattle.pnm_frames.specs.Picture.{Picture}
 use Rattle.pnm_frames.specs.Reading.{Read, byte_at, magic_at, white_at, digits_at, number_at}
 use Rattle.pnm_frames.specs.Reading.{ranged_at, or_fault, header_at, samples_at, plane_of, ended}
 use Rattle.pnm_frames.specs.Reading.{frame_of}
-use Rattle.pnm_frames.proofs.Laws.{Sizes, behind_white, judged, step1, step2, step3, step4, step5}
-use Rattle.pnm_frames.proofs.Laws.{step6, step7}
+use Rattle.pnm_frames.proofs.Grammar.{Sizes, behind_white, judged, step1, step2, step3, step4, step5}
+use Rattle.pnm_frames.proofs.Grammar.{step6, step7}
 use Rattle.pnm_frames.proofs.Files.{empty}
 
 stands-on : {X Y : Type 0} (e : FrameFault) (whole : ℕ) (l : Result X FrameFault)
@@ -341,18 +341,19 @@ lacks HeightOutOfRange whole p r frame stands = absurd (no-frame frame stands)
 lacks (SampleTooLarge place) whole p r frame stands = absurd (no-frame frame stands)
 lacks TrailingBytes whole p r frame stands = absurd (no-frame frame stands)
 
-front : (whole b : ℕ) (more : List ℕ) (p : Picture) (r l : Result Picture FrameFault) →
+prefix : (whole b : ℕ) (more : List ℕ) (p : Picture) (r l : Result Picture FrameFault) →
     Foretells whole (b ∷ more) r l → l ≡ Ok p → r ≡ Err (Truncated whole)
-front whole b more p (Ok q) l tells frame = absurd (no-frame frame tells)
-front whole b more p (Err e) l tells frame =
+prefix whole b more p (Ok q) l tells frame = absurd (no-frame frame tells)
+prefix whole b more p (Err e) l tells frame =
     ap (λ (f : FrameFault). refused f) (lacks e whole p l frame tells)
   where
     refused : FrameFault → Result Picture FrameFault
     refused f = Err f
 
-pub front-truncated : (limits : SizeLimits) (bytes : List ℕ) (b : ℕ) (more : List ℕ) (p : Picture) →
+pub prefix-truncated : (limits : SizeLimits) (bytes : List ℕ) (b : ℕ) (more : List ℕ) (p : Picture)
+    →
     frame_of limits (bytes ++ (b ∷ more)) ≡ Ok p →
     frame_of limits bytes ≡ Err (Truncated (length bytes))
-front-truncated limits bytes b more p frame =
-    front (length bytes) b more p (frame_of limits bytes) (frame_of limits (bytes ++ (b ∷ more)))
+prefix-truncated limits bytes b more p frame =
+    prefix (length bytes) b more p (frame_of limits bytes) (frame_of limits (bytes ++ (b ∷ more)))
     (foretells limits bytes (b ∷ more)) frame

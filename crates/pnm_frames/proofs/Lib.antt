@@ -3,7 +3,7 @@ pub mod Headers
 pub mod Planes
 pub mod Samples
 pub mod Files
-pub mod Laws
+pub mod Grammar
 pub mod Again
 pub mod FirstFault
 pub mod FaultTold

@@ -28,7 +28,7 @@ IsBytes bytes = (i : ℕ) → get_or bytes i 0 < 256
 
 abbrev pub with_front : List ℕ → Result (List ℕ × List ℕ) FrameFault →
     Result (List ℕ × List ℕ) FrameFault
-with_front front read = read >>= λ r. Ok (front ++ r.0, r.1)
+with_front prefix read = read >>= λ r. Ok (prefix ++ r.0, r.1)
 
 -- a sample's two bytes are worth the sample
 worth : (s : ℕ) → 256 * (s / 256) + s % 256 ≡ s
@@ -39,9 +39,9 @@ pushed : (a : ℕ) (s : List ℕ) (r : Result (List ℕ × List ℕ) FrameFault)
 pushed a s (Ok x) = refl
 pushed a s (Err e) = refl
 
-same-front : (r : Result (List ℕ × List ℕ) FrameFault) → r ≡ with_front [] r
-same-front (Ok x) = refl
-same-front (Err e) = refl
+same-prefix : (r : Result (List ℕ × List ℕ) FrameFault) → r ≡ with_front [] r
+same-prefix (Ok x) = refl
+same-prefix (Err e) = refl
 
 -- samples before these that fit
 pub samples-then : (s : List ℕ) (n at : ℕ) (bytes : List ℕ) → All IsSample s →
@@ -49,7 +49,7 @@ pub samples-then : (s : List ℕ) (n at : ℕ) (bytes : List ℕ) → All IsSamp
     ≡ with_front s (samples_at n (at + 2 * length s) bytes)
 samples-then [] n at bytes fits =
     let place : at + 2 * 0 ≡ at = omega arith in
-    rw (zero-add, place) (same-front (samples_at n at bytes))
+    rw (zero-add, place) (same-prefix (samples_at n at bytes))
 samples-then (a ∷ s) n at bytes fits =
     let one : leb (256 * (a / 256) + a % 256) 4095 ≡ true = le-leb _ _ (omega (arith, fits 0 0)) in
     let count : suc (length s) + n ≡ suc (length s + n) = omega arith in
@@ -117,7 +117,7 @@ pub fault-on : (bytes : List ℕ) (i count at : ℕ) (fault : FrameFault) → 2 
 fault-on bytes i count at fault room lt fits e =
     let more : count - i ≡ suc (count - (i + 1)) = omega arith in
     let place : at + 2 * (i + 1) ≡ suc (suc (at + 2 * i)) = omega arith in
-    let front : 2 * (i + 1) ≡ suc (suc (2 * i)) = omega arith in
+    let prefix : 2 * (i + 1) ≡ suc (suc (2 * i)) = omega arith in
     let second : 2 * i + 1 ≡ suc (2 * i) = omega arith in
     let test : leb (256 * get_or bytes (2 * i) 0 + get_or bytes (suc (2 * i)) 0) 4095 ≡ true =
     le-leb _ _ (rw second at fits) in
@@ -127,7 +127,7 @@ fault-on bytes i count at fault room lt fits e =
       drop-cons bytes (suc (2 * i)) 0
           (omega arith),
       test,
-      rw (place, front) at e,
+      rw (place, prefix) at e,
     ) refl
 
 pub fault-large : (bytes : List ℕ) (i count at : ℕ) → 2 * i + 1 < length bytes → i < count →

@@ -94,23 +94,23 @@ IsNotP6 (p ∷ six ∷ bytes) = p ≡ 80 → six ≡ 54 → ⊥
 
 -- neither white space nor, after a gap, a digit
 abbrev pub IsNotAllowed : SizeLimits → List ℕ → ℕ → Type 0
-IsNotAllowed limits front b = (is_white b ≡ false) ×
-    ((front ≡ 80 ∷ 54 ∷ []) ⊎ (IsOpen limits front × (is_ascii_digit b ≡ false)))
+IsNotAllowed limits prefix b = (is_white b ≡ false) ×
+    ((prefix ≡ 80 ∷ 54 ∷ []) ⊎ (IsOpen limits prefix × (is_ascii_digit b ≡ false)))
 
 -- the number after so many others isn't what it may be, and a white space byte ends it that the
 -- longest header still holds
 abbrev pub IsOutOfRange : SizeLimits → ℕ → List ℕ → Type 0
-IsOutOfRange limits k bytes = (front : List ℕ) × (end : ℕ) × (rest : List ℕ) × (n : ℕ) ×
-    (bytes ≡ front ++ (end ∷ rest))
-    × EndsInNumber (HasNumbers limits k) n front × (IsInRange limits k n → ⊥) ×
-    (is_white end ≡ true) × (length front < header_limit)
+IsOutOfRange limits k bytes = (prefix : List ℕ) × (end : ℕ) × (rest : List ℕ) × (n : ℕ) ×
+    (bytes ≡ prefix ++ (end ∷ rest))
+    × EndsInNumber (HasNumbers limits k) n prefix × (IsInRange limits k n → ⊥) ×
+    (is_white end ≡ true) × (length prefix < header_limit)
 
 -- right as far as it goes, and no whole file
 abbrev pub IsUnfinished : SizeLimits → List ℕ → Type 0
 IsUnfinished limits bytes = (bytes ≡ []) ⊎
     ((bytes ≡ 80 ∷ []) ⊎ ((bytes ≡ 80 ∷ 54 ∷ []) ⊎
     ((IsOpen limits bytes × (length bytes < header_limit))
-    ⊎ ((front : List ℕ) × (half : List ℕ) × (bytes ≡ front ++ half) × LacksSamples limits front ×
+    ⊎ ((prefix : List ℕ) × (half : List ℕ) × (bytes ≡ prefix ++ half) × LacksSamples limits prefix ×
     (length half < 2)))))
 
 -- The file has the fault. What follows the byte that shows it, the last that is named here, may be
@@ -118,19 +118,19 @@ IsUnfinished limits bytes = (bytes ≡ []) ⊎
 abbrev pub HasFault : SizeLimits → List ℕ → FrameFault → Type 0
 HasFault limits bytes NotPpm = IsNotP6 bytes
 HasFault limits bytes (BadHeader place) =
-    (front : List ℕ) × (b : ℕ) × (rest : List ℕ) × (bytes ≡ front ++ (b ∷ rest))
-    × (length front ≡ place) × (place < header_limit) × IsNotAllowed limits front b
+    (prefix : List ℕ) × (b : ℕ) × (rest : List ℕ) × (bytes ≡ prefix ++ (b ∷ rest))
+    × (length prefix ≡ place) × (place < header_limit) × IsNotAllowed limits prefix b
 HasFault limits bytes HeaderTooLong =
-    (front : List ℕ) × (rest : List ℕ) × (bytes ≡ front ++ rest) ×
-    (length front ≡ header_limit) × IsOpen limits front
+    (prefix : List ℕ) × (rest : List ℕ) × (bytes ≡ prefix ++ rest) ×
+    (length prefix ≡ header_limit) × IsOpen limits prefix
 HasFault limits bytes WidthOutOfRange = IsOutOfRange limits 0 bytes
 HasFault limits bytes HeightOutOfRange = IsOutOfRange limits 1 bytes
 HasFault limits bytes WrongMaxval = IsOutOfRange limits 2 bytes
 HasFault limits bytes (SampleTooLarge place) =
-    (front : List ℕ) × (pair : Pair) × (rest : List ℕ) ×
-    (bytes ≡ front ++ (pair_bytes pair ++ rest))
-    × (length front ≡ place) × LacksSamples limits front × (4095 < pair_value pair)
+    (prefix : List ℕ) × (pair : Pair) × (rest : List ℕ) ×
+    (bytes ≡ prefix ++ (pair_bytes pair ++ rest))
+    × (length prefix ≡ place) × LacksSamples limits prefix × (4095 < pair_value pair)
 HasFault limits bytes (Truncated seen) = (length bytes ≡ seen) × IsUnfinished limits bytes
 HasFault limits bytes TrailingBytes =
-    (front : List ℕ) × (b : ℕ) × (rest : List ℕ) ×
-    (bytes ≡ front ++ (b ∷ rest)) × HasAllSamples limits front
+    (prefix : List ℕ) × (b : ℕ) × (rest : List ℕ) ×
+    (bytes ≡ prefix ++ (b ∷ rest)) × HasAllSamples limits prefix

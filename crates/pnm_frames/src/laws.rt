@@ -20,7 +20,7 @@ ghost use Rattle.pnm_frames.specs.declared.limits.SizeLimits.{SizeLimits};
 pub fn first_fault()
     ensures stands { (limits : SizeLimits) (bytes more : List ℕ) →
         Foretells (length bytes) more (frame_of limits bytes) (frame_of limits (bytes ++ more)) }
-    ensures fronts { (limits : SizeLimits) (bytes : List ℕ) (b : ℕ) (more : List ℕ) (p : Picture) →
+    ensures prefixes { (limits : SizeLimits) (bytes : List ℕ) (b : ℕ) (more : List ℕ) (p : Picture) →
         frame_of limits (bytes ++ b ∷ more) ≡ Ok p →
         frame_of limits bytes ≡ Err (Truncated (length bytes)) }
     ensures ends { (limits : SizeLimits) (bytes : List ℕ) (fault : FrameFault) →

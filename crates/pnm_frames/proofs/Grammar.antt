@@ -182,11 +182,11 @@ pub number-found : (at : ℕ) (bytes : List ℕ) (read : Point) → number_at at
     NumberRead at bytes read
 unfolding number_at
 number-found at bytes read e =
-    let front = bind_ok (white_at at bytes) behind_white read e in
-    let first = front.0 in
-    let white = white-found at bytes first front.1 in
+    let prefix = bind_ok (white_at at bytes) behind_white read e in
+    let first = prefix.0 in
+    let white = white-found at bytes first prefix.1 in
     elim (chosen (is_ascii_digit first.0) (digits_at (first.0 - 48) first.1 first.2)
-    (Err (BadHeader (first.1 - 1))) (Ok read) front.2) [
+    (Err (BadHeader (first.1 - 1))) (Ok read) prefix.2) [
       | inr bad ↦ absurd (no-value bad.1)
       | inl good ↦
           let rest = digits-found (first.0 - 48) first.1 first.2 read good.1 in
@@ -414,7 +414,8 @@ header-found limits bytes read e =
     (some-of HeightOutOfRange c.0.0 h.0 h.1) in
     let maxval = ranged-found 4095 4095 c.0.1 c.0.2 m.0 d.0 d.1
     (some-of WrongMaxval d.0.0 m.0 m.1) in
-    put magic.gap w.0 h.0 m.0 a.0.1 b.0.1 c.0.1 d.0.1 a.0.2 b.0.2 c.0.2 d.0.2 bytes read magic.white magic.parts magic.place width.0 height.0 maxval.0
+    put magic.gap w.0 h.0 m.0 a.0.1 b.0.1 c.0.1 d.0.1 a.0.2 b.0.2 c.0.2 d.0.2 bytes read magic.white
+        magic.parts magic.place width.0 height.0 maxval.0
     (omega (arith, maxval.1, maxval.2))
     (record {
       some_width = width.1;
@@ -430,7 +431,8 @@ header-found limits bytes read e =
         NumberRead at3 r3 (m, at4, r4) → m ≡ 4095
         → IsWithin limits w h → (let s : Sizes = ((w, h), at4, r4) in s) ≡ read →
         HeaderRead limits bytes read
-    put g w h m at1 at2 at3 at4 r1 r2 r3 r4 bytes read white magic three width height maxval is within same =
+    put g w h m at1 at2 at3 at4 r1 r2 r3 r4 bytes read white magic three width height maxval is
+        within same =
         subst (λ (s : Sizes). HeaderRead limits bytes s) same (record {
           parts = record {
             gap1 = g ∷ width.gap;
@@ -453,19 +455,22 @@ header-found limits bytes read e =
             ended = maxval.ends;
             short = omega (
               arith,
-              length-header g width.end height.end maxval.end width.gap width.digits height.gap height.digits maxval.gap maxval.digits,
+              length-header g width.end height.end maxval.end width.gap width.digits height.gap
+                  height.digits maxval.gap maxval.digits,
               width.place,
               height.place,
               maxval.place,
               maxval.room,
             );
           };
-          whole = whole-header g width.end height.end maxval.end width.gap width.digits height.gap height.digits maxval.gap maxval.digits r4 r1 r2 r3 bytes
+          whole = whole-header g width.end height.end maxval.end width.gap width.digits height.gap
+              height.digits maxval.gap maxval.digits r4 r1 r2 r3 bytes
               magic width.parts height.parts maxval.parts;
           within = within;
           place = omega (
             arith,
-            length-header g width.end height.end maxval.end width.gap width.digits height.gap height.digits maxval.gap maxval.digits,
+            length-header g width.end height.end maxval.end width.gap width.digits height.gap
+                height.digits maxval.gap maxval.digits,
             three,
             width.place,
             height.place,
@@ -483,12 +488,12 @@ at-end [] e = refl
 at-end (x ∷ rest) e = absurd cc
 
 pub file-found : (limits : SizeLimits) (p : Picture) (bytes : List ℕ) (w h at : ℕ)
-    (front rest : List ℕ) → header_at limits bytes ≡ Ok ((w, h), at, front)
-    → p.width ≡ w → p.height ≡ h → front ≡ raster p ++ rest → nothing_in rest ≡ value empty →
+    (prefix rest : List ℕ) → header_at limits bytes ≡ Ok ((w, h), at, prefix)
+    → p.width ≡ w → p.height ≡ h → prefix ≡ raster p ++ rest → nothing_in rest ≡ value empty →
     Spells bytes p
-file-found limits p bytes w h at front rest e wide tall parts last =
-    let head = header-found limits bytes ((w, h), at, front) e in
-    let behind : front ≡ raster p = parts ∙ ap (λ (t : List ℕ). raster p ++ t) (at-end rest last)
+file-found limits p bytes w h at prefix rest e wide tall parts last =
+    let head = header-found limits bytes ((w, h), at, prefix) e in
+    let behind : prefix ≡ raster p = parts ∙ ap (λ (t : List ℕ). raster p ++ t) (at-end rest last)
     ∙ append-nil (raster p) in (
       head.parts,
       rw (wide, tall) head.is_header,

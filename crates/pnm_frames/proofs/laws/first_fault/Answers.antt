@@ -1,13 +1,13 @@
 use Rattle.pnm_frames.proofs.FaultShown.{all-shown, fault-shown}
 use Rattle.pnm_frames.proofs.FaultTold.{all-told, frame-told}
-use Rattle.pnm_frames.proofs.FirstFault.{foretells, front-truncated}
-use Rattle.pnm_frames.proofs.law.first_fault.Goals as goal
+use Rattle.pnm_frames.proofs.FirstFault.{foretells, prefix-truncated}
+use Rattle.pnm_frames.proofs.laws.first_fault.Goals as goal
 
 pub returns-clause-stands : goal.returns-clause-stands
 returns-clause-stands c = foretells
 
-pub returns-clause-fronts : goal.returns-clause-fronts
-returns-clause-fronts c = front-truncated
+pub returns-clause-prefixes : goal.returns-clause-prefixes
+returns-clause-prefixes c = prefix-truncated
 
 pub returns-clause-ends : goal.returns-clause-ends
 returns-clause-ends c = λ limits bytes fault.
