@@ -3,3 +3,10 @@ pub mod Packets
 pub mod Spell
 -- The choice of coding passes, and what is written of the code-blocks by it.
 pub mod Chosen
+-- What the bytes of a codestream mean: packets and tile-parts as they stand, and the relation of
+-- bytes and what is decoded of them.
+pub mod Shapes
+pub mod Words
+pub mod Reads
+-- What a codestream that is written is read as.
+pub mod Shown

@@ -1,0 +1,110 @@
+-- What a codestream that is written shows: the decoding of which it is the spelling.
+use Rattle.std.specs.Prelude.{ℕ, zero, suc, ◌-◌, ◌*◌, ◌≡◌, ◌≤◌, ◌<◌, ◌^◌, List, [], ◌∷◌, length, map}
+use Rattle.std.specs.List.{All}
+use Rattle.cine_nums.specs.Profile.{levels_of}
+use Rattle.band_geometry.specs.Bands.{block_of, IsBlock}
+use Rattle.band_geometry.specs.Numbering.{all_blocks}
+use Rattle.band_geometry.specs.declared.geometry.Geometry.{Geometry}
+use Rattle.band_geometry.specs.declared.places.BlockId.{BlockId}
+use Rattle.codeblock_views.specs.Blocks.{plane_of}
+use Rattle.codeblock_views.specs.KnownCells.{zero_known}
+use Rattle.codeblock_views.specs.declared.known.Known.{Known}
+use Rattle.dz_quantiser.specs.Bands.{band_planes, AreUsable}
+use Rattle.dz_quantiser.specs.declared.steps.StepSizes.{StepSizes}
+use Rattle.ebcot_contexts.specs.Cells.{Cell, view}
+use Rattle.ebcot_contexts.specs.Contexts.{Shape}
+use Rattle.ebcot_contexts.specs.Meaning.{unknown_after}
+use Rattle.packet_headers.specs.Written.{CanWriteEntry, IsPlain}
+use Rattle.profile_reader.specs.Packets.{BlockBytes}
+use Rattle.profile_reader.specs.Spell.{part_lengths, header_for, spell}
+use Rattle.profile_reader.specs.Chosen.{Planes, block_coefs, block_shape, chosen, chosen_passes}
+use Rattle.profile_reader.specs.Reads.{BlockRead, Decoding, BlockMeans, Reads, shape_with, known_of}
+
+-- what is written of a code-block can be written, in a band of so many magnitude bit-planes
+pub record IsWritable (band_planes : ℕ) (written : BlockBytes) : Type 0 where
+  pub can_write : CanWriteEntry band_planes written.entry
+  pub plain : IsPlain written.entry
+  pub len : length written.code ≡ written.entry.len
+
+-- A codestream can be spelled of what is written of each code-block: the levels are those of the
+-- writer, the steps are ones that the quantiser takes, each tile-part has a length of 32 bits, and
+-- what is written of each block can be written.
+pub record CanSpell (g : Geometry) (steps : StepSizes) (given : BlockId → BlockBytes)
+    : Type 0 where
+  pub levels : g.levels ≡ levels_of g.profile
+  pub steps_usable : AreUsable g.levels steps
+  pub lengths : All (λ n. n < 2 ^ 32) (part_lengths g steps given)
+  pub writable : (b : BlockId) → IsBlock g b →
+      IsWritable (band_planes steps b.res b.orient) (given b)
+
+-- the decoding in which the blocks have these bit-planes, passes and cells
+abbrev pub decoding_with : Geometry → StepSizes → (BlockId → BlockBytes) → (BlockId → BlockRead) →
+    (BlockId → List Known) → Decoding
+decoding_with g steps given reads cells = record {
+  main = header_for g steps (part_lengths g steps given);
+  blocks = map reads (all_blocks g);
+  planes =
+    plane_of zero_known g 0 cells ∷ plane_of zero_known g 1 cells ∷ plane_of zero_known g 2 cells
+        ∷ [];
+}
+
+-- What is spelled of code-blocks that mean cells is read as these cells.
+abbrev pub SpelledReads : Type 0
+SpelledReads =
+    (g : Geometry) (steps : StepSizes) (given : BlockId → BlockBytes) (reads : BlockId → BlockRead)
+    (cells : BlockId → List Known) → CanSpell g steps given →
+    ((b : BlockId) → IsBlock g b →
+    BlockMeans g (band_planes steps b.res b.orient) b (given b) (reads b) (cells b)) →
+    Reads (spell g steps given) (decoding_with g steps given reads cells)
+
+-- The bit-planes of a block that is decoded from so many passes: those of its largest magnitude.
+-- Without passes nothing says how many of the band's are zero.
+abbrev pub decoded_planes : ℕ → ℕ → ℕ → ℕ
+decoded_planes band_planes block_planes zero = band_planes
+decoded_planes band_planes block_planes (suc k) = block_planes
+
+-- what is decoded of a block by a choice of passes
+unfoldable pub chosen_read : Geometry → StepSizes → Planes → List ℕ → BlockId → BlockRead
+chosen_read g steps planes choice b = record {
+  planes = decoded_planes (band_planes steps b.res b.orient) (block_shape g planes b).planes
+      (chosen_passes g choice b);
+  passes = chosen_passes g choice b;
+}
+
+-- how many bit-planes of each place of a block its chosen passes leave unknown
+unfoldable pub chosen_unknown : Geometry → StepSizes → Planes → List ℕ → BlockId → List ℕ
+chosen_unknown g steps planes choice b =
+    unknown_after (block_coefs g planes b)
+    (shape_with g b (chosen_read g steps planes choice b).planes) (chosen_passes g choice b)
+
+-- its coefficients cut to what is known after these passes
+unfoldable pub chosen_cells : Geometry → StepSizes → Planes → List ℕ → BlockId → List Known
+chosen_cells g steps planes choice b =
+    map known_of (view (block_coefs g planes b) (chosen_unknown g steps planes choice b))
+
+-- the decoding of a choice of passes
+abbrev pub chosen_decoding : Geometry → StepSizes → Planes → List ℕ → Decoding
+chosen_decoding g steps planes choice =
+    decoding_with g steps (chosen g steps planes choice) (chosen_read g steps planes choice)
+    (chosen_cells g steps planes choice)
+
+-- A choice of passes can be spelled: the levels are those of the writer, the quantiser takes the
+-- steps, no block has more bit-planes than its band, each block has at most the passes of its
+-- bit-planes, and each tile-part has a length of 32 bits.
+pub record CanChoose (g : Geometry) (steps : StepSizes) (planes : Planes) (choice : List ℕ)
+    : Type 0 where
+  pub levels : g.levels ≡ levels_of g.profile
+  pub steps_usable : AreUsable g.levels steps
+  pub below : (b : BlockId) → IsBlock g b →
+      (block_shape g planes b).planes ≤ band_planes steps b.res b.orient
+  pub passes : (b : BlockId) → IsBlock g b →
+      chosen_passes g choice b ≤ 3 * (block_shape g planes b).planes - 2
+  pub lengths : All (λ n. n < 2 ^ 32) (part_lengths g steps (chosen g steps planes choice))
+
+-- The codestream of a choice of passes is read as the frame's coefficients cut to what these passes
+-- leave known.
+abbrev pub ChosenReads : Type 0
+ChosenReads =
+    (g : Geometry) (steps : StepSizes) (planes : Planes) (choice : List ℕ) →
+    CanChoose g steps planes choice →
+    Reads (spell g steps (chosen g steps planes choice)) (chosen_decoding g steps planes choice)
