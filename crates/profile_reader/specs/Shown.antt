@@ -1,15 +1,17 @@
 -- What a codestream that is written shows: the decoding of which it is the spelling.
-use Rattle.std.specs.Prelude.{ℕ, zero, suc, ◌-◌, ◌*◌, ◌≡◌, ◌≤◌, ◌<◌, ◌^◌, List, [], ◌∷◌, length, map}
+use Rattle.std.specs.Prelude.{Bool, ◌/◌, ◌+◌, ◌&&◌, nat_lt, get_or, ℕ, zero, suc, ◌-◌, ◌*◌, ◌≡◌, ◌≤◌, ◌<◌, ◌^◌, List, [], ◌∷◌, length, map}
 use Rattle.std.specs.List.{All}
 use Rattle.cine_nums.specs.Profile.{levels_of}
 use Rattle.band_geometry.specs.Bands.{block_of, IsBlock}
 use Rattle.band_geometry.specs.Numbering.{all_blocks}
 use Rattle.band_geometry.specs.declared.geometry.Geometry.{Geometry}
 use Rattle.band_geometry.specs.declared.places.BlockId.{BlockId}
+use Rattle.band_geometry.specs.Places.{block_at_place}
 use Rattle.codeblock_views.specs.Blocks.{plane_of}
 use Rattle.codeblock_views.specs.KnownCells.{zero_known}
 use Rattle.codeblock_views.specs.declared.known.Known.{Known}
 use Rattle.dz_quantiser.specs.Bands.{band_planes, AreUsable}
+use Rattle.dz_quantiser.specs.Coefficient.{Coefficient, zero_coefficient}
 use Rattle.dz_quantiser.specs.declared.steps.StepSizes.{StepSizes}
 use Rattle.ebcot_contexts.specs.Cells.{Cell, view}
 use Rattle.ebcot_contexts.specs.Contexts.{Shape}
@@ -108,3 +110,29 @@ ChosenReads =
     (g : Geometry) (steps : StepSizes) (planes : Planes) (choice : List ℕ) →
     CanChoose g steps planes choice →
     Reads (spell g steps (chosen g steps planes choice)) (chosen_decoding g steps planes choice)
+
+-- What is known of a coefficient is its bits above its lowest `unknown` bit-planes, and its sign
+-- where one of these bits is 1 (Annex D.2). A sign that isn't known is plus.
+pub record IsCut (q : Coefficient) (unknown : ℕ) (k : Known) : Type 0 where
+  pub magnitude : k.magnitude ≡ q.magnitude / 2 ^ unknown
+  pub sign : k.negative ≡ (nat_lt 0 k.magnitude && q.negative)
+  pub unknown_is : k.unknown ≡ unknown
+
+-- how many bit-planes the chosen passes of its block leave unknown at the place (x, y) of component
+-- c: the block is the one that has the place, and in it the place has this column and row
+abbrev pub unknown_at : Geometry → StepSizes → Planes → List ℕ → ℕ → ℕ → ℕ → ℕ
+unknown_at g steps planes choice c x y =
+    let b = block_at_place g c x y in
+    let r = block_of g b in
+    get_or (chosen_unknown g steps planes choice b) ((y - r.y) * r.width + (x - r.x)) 0
+
+-- What a choice decodes to, place by place: at each place of each component stands the frame's
+-- coefficient without the bit-planes that the chosen passes of its block leave unknown.
+abbrev pub DecodesTo : Type 0
+DecodesTo =
+    (g : Geometry) (steps : StepSizes) (planes : Planes) (choice : List ℕ) →
+    CanChoose g steps planes choice → (c x y : ℕ) → c < 3 → x < g.width → y < g.height →
+    IsCut (get_or (planes c) (y * g.width + x) zero_coefficient)
+    (unknown_at g steps planes choice c x y)
+    (get_or (get_or (chosen_decoding g steps planes choice).planes c []) (y * g.width + x)
+    zero_known)

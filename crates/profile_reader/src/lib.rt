@@ -5,3 +5,7 @@
 //! of the code-blocks of a frame's coefficients by a choice of coding passes. An encoder promises
 //! these bytes, and a reader's contract speaks of the same words.
 #![tactic(auto)]
+
+mod laws;
+
+pub use laws::{chosen_reads, spelled_reads};

@@ -1,0 +1,9 @@
+pub mod StepLemmas
+pub mod PacketLemmas
+pub mod BandLemmas
+pub mod SpelledLemmas
+pub mod MainLemmas
+pub mod PlaneLemmas
+pub mod ReadsLemmas
+pub mod ChosenLemmas
+pub mod PlacesLemmas
