@@ -1,26 +1,25 @@
 -- A packet whose blocks can be written can be written.
-use Rattle.std.proofs.Common.{◌≡◌, ℕ, zero, suc, ◌+◌, ◌-◌, ◌*◌, ◌<◌, ◌≤◌, List, [], ◌∷◌, map, length}
-use Rattle.std.proofs.Common.{refl, sym, ap, subst, ◌∙◌, arith}
+use Rattle.std.proofs.Common.{ℕ, zero, suc, ◌-◌, ◌<◌, [], ◌∷◌, map}
+use Rattle.std.proofs.Common.{refl, ap, subst, ◌∙◌, arith}
 use Rattle.std.specs.List.{All}
 use Rattle.std.proofs.lemmas.List.{length-map}
 use Rattle.std.proofs.lemmas.List.Elements.{All-nil, All-cons, All-map, All-weaker}
 use Rattle.cine_nums.specs.declared.orient.Orient.{Orient}
 use Rattle.cine_nums.specs.declared.orient.Orient.TheVariants.{LL, HL, LH, HH}
-use Rattle.band_geometry.specs.Bands.{HasBand, IsBlock, IsOrientAt, precinct_blocks_of}
+use Rattle.band_geometry.specs.Bands.{HasBand, IsOrientAt, precinct_blocks_of}
 use Rattle.band_geometry.specs.Numbering.{orients_of}
 use Rattle.band_geometry.specs.declared.geometry.Geometry.{Geometry}
 use Rattle.band_geometry.specs.declared.places.BlockId.{BlockId}
-use Rattle.dz_quantiser.specs.Bands.{band_planes, AreUsable}
+use Rattle.dz_quantiser.specs.Bands.{band_planes}
 use Rattle.dz_quantiser.specs.declared.steps.StepSizes.{StepSizes}
-use Rattle.packet_order.specs.Blocks.{blocks_in, IsBlockIn, packet_of_block}
+use Rattle.packet_order.specs.Blocks.{blocks_in, IsBlockIn}
 use Rattle.packet_order.specs.Order.{IsPacketOf}
 use Rattle.packet_order.specs.declared.packet.PacketId.{PacketId}
 use Rattle.packet_order.proofs.BlockLemmas.{all_in_band, band_count}
 use Rattle.packet_headers.specs.Written.{CanWriteEntry, CanWriteBand, CanWrite, IsPlain, ArePlain}
-use Rattle.packet_headers.specs.declared.entry.Entry.{Entry}
 use Rattle.packet_headers.specs.declared.packet.PacketBand.{PacketBand}
 use Rattle.profile_reader.specs.Packets.{BlockBytes, band_with, packet_with}
-use Rattle.profile_reader.specs.Shown.{IsWritable, CanSpell}
+use Rattle.profile_reader.specs.Spelled.{IsWritable, CanSpell}
 use Rattle.profile_reader.proofs.StepLemmas.{few_planes}
 
 -- what holds of each band of a resolution holds of those of its packets

@@ -1,12 +1,11 @@
 -- What is written of a block by its chosen passes can be written, and means the block's
 -- coefficients cut to what these passes leave known.
-use Rattle.std.proofs.Common.{◌≡◌, ℕ, zero, suc, ◌+◌, ◌-◌, ◌*◌, ◌/◌, ◌^◌, ◌<◌, ◌≤◌, max, Bool, true}
-use Rattle.std.proofs.Common.{false, List, [], ◌∷◌, map, length, refl, sym, ap, subst, ◌∙◌, arith}
+use Rattle.std.proofs.Common.{◌≡◌, ℕ, zero, suc, ◌+◌, ◌-◌, ◌*◌, ◌^◌, ◌<◌, ◌≤◌, Bool}
+use Rattle.std.proofs.Common.{List, [], ◌∷◌, map, length, refl, sym, subst, ◌∙◌, arith}
 use Rattle.std.proofs.lemmas.Simd.{map-map}
 use Rattle.std.proofs.lemmas.List.{length-map, map-id}
 use Rattle.std.proofs.lemmas.Bool.{true≢false, false≢true}
 use Rattle.std.proofs.Math.Pow.{pow_mono}
-use Rattle.cine_nums.specs.Bits.{bit_len}
 use Rattle.cine_nums.proofs.BitLength.{bit_len-above}
 use Rattle.band_geometry.specs.Bands.{block_of}
 use Rattle.band_geometry.specs.Bands.{IsBlock as IsBlockIn}
@@ -14,7 +13,6 @@ use Rattle.band_geometry.specs.declared.geometry.Geometry.{Geometry}
 use Rattle.band_geometry.specs.declared.places.BlockId.{BlockId}
 use Rattle.codeblock_views.specs.Magnitudes.{largest, block_planes}
 use Rattle.codeblock_views.specs.RectangleLaws.{cells_in-length}
-use Rattle.codeblock_views.specs.declared.known.Known.{Known}
 use Rattle.distortion_sums.specs.Coefs.{coefs_of}
 use Rattle.dz_quantiser.specs.Bands.{band_planes}
 use Rattle.dz_quantiser.specs.Coefficient.{Coefficient, zero_coefficient}
@@ -27,12 +25,12 @@ use Rattle.ebcot_contexts.specs.Meaning.{read_block}
 use Rattle.ebcot_contexts.specs.Passes.{block}
 use Rattle.mq_coder.specs.Code.{code, coded}
 use Rattle.mq_coder.specs.Laws.{IsCodeForm}
-use Rattle.packet_headers.specs.Written.{CanWriteIncluded}
 use Rattle.profile_reader.specs.Chosen.{Planes, block_cells, block_coefs, block_shape, chosen}
 use Rattle.profile_reader.specs.Chosen.{chosen_passes, written_of}
 use Rattle.profile_reader.specs.Reads.{BlockMeans, shape_with, known_of, cell_of_known}
-use Rattle.profile_reader.specs.Shown.{IsWritable, CanSpell, CanChoose, decoded_planes, chosen_read}
-use Rattle.profile_reader.specs.Shown.{chosen_unknown, chosen_cells, SpelledReads, ChosenReads}
+use Rattle.profile_reader.specs.Shown.{CanChoose, decoded_planes, chosen_read, chosen_unknown}
+use Rattle.profile_reader.specs.Shown.{chosen_cells, ChosenReads}
+use Rattle.profile_reader.specs.Spelled.{IsWritable, CanSpell, SpelledReads}
 use Rattle.profile_reader.proofs.StepLemmas.{few_planes}
 
 -- the laws of the passes and of their code, as they come from below

@@ -1,6 +1,6 @@
 -- The main header of a codestream that is spelled.
-use Rattle.std.proofs.Common.{◌≡◌, ℕ, ◌+◌, ◌*◌, ◌^◌, ◌<◌, ◌≤◌, List, [], ◌∷◌, ◌++◌, length, get_or}
-use Rattle.std.proofs.Common.{map, take, refl, sym, ap, ◌∙◌, arith, subst, inl, inr, append-nil}
+use Rattle.std.proofs.Common.{◌≡◌, ℕ, ◌^◌, ◌<◌, ◌≤◌, List, [], ◌∷◌, ◌++◌, length, get_or}
+use Rattle.std.proofs.Common.{take, refl, sym, ap, ◌∙◌, arith, subst, inl, inr, append-nil}
 use Rattle.std.specs.List.{All}
 use Rattle.std.proofs.lemmas.Bool.{cases_lt}
 use Rattle.std.proofs.lemmas.List.{get_or_past}
@@ -23,7 +23,7 @@ use Rattle.dz_quantiser.specs.declared.band.BandStep.{BandStep}
 use Rattle.dz_quantiser.specs.declared.steps.StepSizes.{StepSizes}
 use Rattle.profile_reader.specs.Packets.{BlockBytes}
 use Rattle.profile_reader.specs.Spell.{part_length, part_lengths, header_for}
-use Rattle.profile_reader.specs.Shown.{CanSpell}
+use Rattle.profile_reader.specs.Spelled.{CanSpell}
 use Rattle.profile_reader.proofs.StepLemmas.{IsTaken, all_taken}
 
 -- the writer's header is spelled by the writer's words
@@ -90,8 +90,7 @@ spelled_main g steps given can =
     let has : HasMain (main_header_of m ++ 0xFF ∷ 0x90 ∷ []) (read_of m) =
     written_is_main m (main_header_of m) [] (can_write_main g steps given can)
     (All-weaker (IsTaken steps.guard) (λ (step : BandStep). 1 ≤ planes_of steps.guard step.exponent)
-    (λ step is. is.1.planes_low) steps.bands.items taken) refl in
-    (
+    (λ step is. is.1.planes_low) steps.bands.items taken) refl in (
       has.words,
       record {
         fits = has.fits;

@@ -1,5 +1,5 @@
 -- What is spelled of a packet: its words, and the bytes of packets and tile-parts.
-use Rattle.std.proofs.Common.{◌≡◌, ℕ, zero, suc, ◌+◌, List, [], ◌∷◌, ◌++◌, map, length, refl, sym}
+use Rattle.std.proofs.Common.{◌≡◌, ℕ, zero, suc, ◌+◌, List, [], ◌∷◌, ◌++◌, map, refl, sym}
 use Rattle.std.proofs.Common.{ap, ◌∙◌}
 use Rattle.std.specs.List.{flat_map, range_with_len}
 use Rattle.std.proofs.lemmas.Simd.{map-map}
@@ -80,7 +80,8 @@ pub wholes_bytes : (g : Geometry) (steps : StepSizes) (given : BlockId → Block
     ≡ flat_map (written_packet g steps given) ps
 wholes_bytes g steps given [] = refl
 wholes_bytes g steps given (p ∷ ps) =
-    ap (λ t. t ++ flat_map packet_bytes (map (whole g steps given) ps)) (whole_bytes g steps given p)
+    ap (λ t. t ++ flat_map packet_bytes (map (whole g steps given) ps))
+    (whole_bytes g steps given p)
     ∙ ap (λ t. written_packet g steps given p ++ t) (wholes_bytes g steps given ps)
 
 -- the tile-part as it stands

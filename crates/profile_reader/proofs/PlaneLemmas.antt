@@ -1,5 +1,5 @@
 -- The planes that are put together from cells of blocks.
-use Rattle.std.proofs.Common.{◌≡◌, ℕ, zero, suc, ◌+◌, ◌*◌, ◌%◌, ◌/◌, ◌<◌, List, [], ◌∷◌, map, length}
+use Rattle.std.proofs.Common.{◌≡◌, ℕ, zero, suc, ◌*◌, ◌%◌, ◌/◌, ◌<◌, List, [], ◌∷◌, map, length}
 use Rattle.std.proofs.Common.{get_or, refl, sym, ap, ◌∙◌, arith}
 use Rattle.std.proofs.lemmas.List.{length-map}
 use Rattle.std.proofs.lemmas.List.FromFn.{length-map-range_with_len}
@@ -11,10 +11,10 @@ use Rattle.codeblock_views.specs.KnownCells.{zero_known}
 use Rattle.codeblock_views.specs.Rectangles.{cells_in}
 use Rattle.codeblock_views.specs.declared.known.Known.{Known}
 use Rattle.dz_quantiser.specs.declared.steps.StepSizes.{StepSizes}
-use Rattle.ebcot_contexts.specs.Cells.{Cell, coef_of}
+use Rattle.ebcot_contexts.specs.Cells.{coef_of}
 use Rattle.profile_reader.specs.Packets.{BlockBytes}
 use Rattle.profile_reader.specs.Reads.{BlockRead, BlockMeans, cell_of_known, cells_of}
-use Rattle.profile_reader.specs.Shown.{decoding_with}
+use Rattle.profile_reader.specs.Spelled.{decoding_with}
 
 -- the law of the planes that are put together, as it comes from below
 abbrev pub Assembled : Type 0
@@ -35,7 +35,8 @@ pub plane_again : (g : Geometry) (steps : StepSizes) (given : BlockId → BlockB
     (reads : BlockId → BlockRead) (cells : BlockId → List Known) (c : ℕ) → c < 3 →
     get_or (decoding_with g steps given reads cells).planes c []
     ≡ plane_of zero_known g c cells
-plane_again g steps given reads cells c below = three (λ k. plane_of zero_known g k cells) [] c below
+plane_again g steps given reads cells c below = three (λ k. plane_of zero_known g k cells) [] c
+    below
 
 pub plane_length : (g : Geometry) (c : ℕ) (cells : BlockId → List Known) →
     length (plane_of zero_known g c cells) ≡ g.height * g.width
@@ -45,7 +46,8 @@ plane_length g c cells =
     (λ n. cell_at_place zero_known g c cells (n % g.width) (n / g.width)) 0 (g.height * g.width)
 
 -- the cells of a block that have a meaning are as many as its rectangle has places
-pub meaning_length : (g : Geometry) (most : ℕ) (b : BlockId) (written : BlockBytes) (read : BlockRead)
+pub meaning_length : (g : Geometry) (most : ℕ) (b : BlockId) (written : BlockBytes)
+    (read : BlockRead)
     (cells : List Known) → BlockMeans g most b written read cells →
     length cells ≡ (block_of g b).height * (block_of g b).width
 meaning_length g most b written read cells means =

@@ -1,25 +1,22 @@
 -- What is spelled of code-blocks that mean cells is read as these cells.
-use Rattle.std.proofs.Common.{◌≡◌, ℕ, ◌+◌, ◌*◌, ◌<◌, List, [], ◌∷◌, ◌++◌, map, length, get_or, refl}
+use Rattle.std.proofs.Common.{◌≡◌, ℕ, List, map, length, refl}
 use Rattle.std.proofs.Common.{sym, ap, subst, ◌∙◌}
-use Rattle.std.specs.List.{range_with_len}
 use Rattle.std.proofs.lemmas.List.{length-map}
 use Rattle.std.proofs.lemmas.List.FromFn.{length-map-range_with_len}
 use Rattle.cine_nums.specs.Profile.{parts_of}
 use Rattle.band_geometry.specs.Bands.{IsBlock}
-use Rattle.band_geometry.specs.Counts.{number_of}
 use Rattle.band_geometry.specs.Numbering.{all_blocks}
 use Rattle.band_geometry.specs.declared.geometry.Geometry.{Geometry}
 use Rattle.band_geometry.specs.declared.places.BlockId.{BlockId}
-use Rattle.cinema_markers.specs.Words.{MainWords, main_words}
+use Rattle.cinema_markers.specs.Words.{MainWords}
 use Rattle.codeblock_views.specs.declared.known.Known.{Known}
 use Rattle.dz_quantiser.specs.Bands.{band_planes}
 use Rattle.dz_quantiser.specs.declared.steps.StepSizes.{StepSizes}
-use Rattle.tile_parts.specs.Head.{eoc}
 use Rattle.profile_reader.specs.Packets.{BlockBytes, left_out}
-use Rattle.profile_reader.specs.Reads.{BlockRead, Decoding, BlockMeans, Stream, StreamFits, Reads}
+use Rattle.profile_reader.specs.Reads.{BlockRead, BlockMeans, Stream, StreamFits}
 use Rattle.profile_reader.specs.Reads.{stream_bytes, nothing_read, block_in, read_in, cells_of}
 use Rattle.profile_reader.specs.Spell.{part_length, part_indexes, part_lengths, header_for, spell}
-use Rattle.profile_reader.specs.Shown.{CanSpell, decoding_with, SpelledReads}
+use Rattle.profile_reader.specs.Spelled.{CanSpell, decoding_with, SpelledReads}
 use Rattle.profile_reader.specs.Words.{PartsFit}
 use Rattle.profile_reader.proofs.MainLemmas.{IsSpelledMain, spelled_main, few_band_planes}
 use Rattle.profile_reader.proofs.PacketLemmas.{whole_part, parts_written}
@@ -66,7 +63,8 @@ block_means : Assembled → (g : Geometry) (steps : StepSizes) (given : BlockId 
     (cells_of g (decoding_with g steps given reads cells) b)
 block_means assembled g steps given reads cells most b is means =
     subst (λ w. BlockMeans g most b w (read_in g (decoding_with g steps given reads cells) b)
-    (cells_of g (decoding_with g steps given reads cells) b)) (sym (found_again g given left_out b is))
+    (cells_of g (decoding_with g steps given reads cells) b))
+    (sym (found_again g given left_out b is))
     (subst (λ r. BlockMeans g most b (given b) r
     (cells_of g (decoding_with g steps given reads cells) b))
     (sym (found_again g reads nothing_read b is))
@@ -85,7 +83,8 @@ spelled_is_read assembled g steps given reads cells can means =
       count = length-map (all_blocks g) given;
       says = parts_say g steps given (parts_of g.profile) 0;
       counted = length-map (all_blocks g) reads;
-      means = λ b is. block_means assembled g steps given reads cells (band_planes steps b.res b.orient) b is
+      means = λ b is. block_means assembled g steps given reads cells
+          (band_planes steps b.res b.orient) b is
           (means b is);
       components = refl;
       sizes = λ c below. ap length (plane_again g steps given reads cells c below)

@@ -1,8 +1,8 @@
 -- What is spelled is read: words, sizes and bytes fit, and they say what was given.
-use Rattle.std.proofs.Common.{◌≡◌, ℕ, zero, suc, ◌+◌, ◌-◌, ◌*◌, ◌^◌, ◌<◌, ◌≤◌, List, [], ◌∷◌, ◌++◌}
+use Rattle.std.proofs.Common.{◌≡◌, ℕ, zero, suc, ◌+◌, List, [], ◌∷◌}
 use Rattle.std.proofs.Common.{map, length, get_or, refl, sym, ap, subst, ◌∙◌, inl}
 use Rattle.std.proofs.Common.{option_map}
-use Rattle.std.specs.List.{All, flat_map, range_with_len}
+use Rattle.std.specs.List.{All, range_with_len}
 use Rattle.std.proofs.lemmas.List.Elements.{All-nil, All-head, All-tail, All-weaker}
 use Rattle.std.proofs.lemmas.Option.{slice_get-map, get_or_from_slice_get}
 use Rattle.cine_nums.specs.Profile.{parts_of}
@@ -26,10 +26,10 @@ use Rattle.packet_headers.specs.declared.entry.Entry.{Entry}
 use Rattle.profile_reader.specs.Packets.{BlockBytes, left_out, packet_with, written_body}
 use Rattle.profile_reader.specs.Shapes.{shapes_in}
 use Rattle.profile_reader.specs.Spell.{part_length}
-use Rattle.profile_reader.specs.Words.{PacketWhole, PartWhole, PacketFits, PacketsFit, PartFits}
+use Rattle.profile_reader.specs.Words.{PacketFits, PacketsFit}
 use Rattle.profile_reader.specs.Words.{PartsFit}
 use Rattle.profile_reader.specs.Reads.{block_in, PacketSays, PacketsSay, PartsSay}
-use Rattle.profile_reader.specs.Shown.{CanSpell}
+use Rattle.profile_reader.specs.Spelled.{CanSpell}
 use Rattle.profile_reader.proofs.PacketLemmas.{shapes_written, entries_written, whole}
 use Rattle.profile_reader.proofs.PacketLemmas.{wholes_bytes, whole_part}
 use Rattle.profile_reader.proofs.BandLemmas.{can_write, are_plain}
@@ -101,7 +101,8 @@ parts_fit g steps given can (suc n) index = (
 )
 
 -- what is listed by block number is found by it
-pub found_again : {A : Type 0} (g : Geometry) (f : BlockId → A) (d : A) (b : BlockId) → IsBlock g b →
+pub found_again : {A : Type 0} (g : Geometry) (f : BlockId → A) (d : A) (b : BlockId) → IsBlock g b
+    →
     get_or (map f (all_blocks g)) (number_of g b) d ≡ f b
 found_again g f d b is =
     get_or_from_slice_get (map f (all_blocks g)) (number_of g b) (f b) d

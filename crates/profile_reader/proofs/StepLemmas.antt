@@ -1,6 +1,6 @@
 -- Usable steps, one after the other.
-use Rattle.std.proofs.Common.{◌≡◌, ℕ, zero, suc, ◌+◌, ◌-◌, ◌*◌, ◌/◌, ◌%◌, ◌<◌, ◌≤◌, get_or, length}
-use Rattle.std.proofs.Common.{arith, sym, subst, inl, inr, ◌⊎◌}
+use Rattle.std.proofs.Common.{◌≡◌, ℕ, zero, suc, ◌+◌, ◌-◌, ◌*◌, ◌/◌, ◌%◌, ◌<◌, ◌≤◌, get_or}
+use Rattle.std.proofs.Common.{arith, subst, inl, inr, ◌⊎◌}
 use Rattle.std.specs.List.{All}
 use Rattle.std.proofs.lemmas.Bool.{cases_lt}
 use Rattle.std.proofs.lemmas.List.Elements.{All-from_get_or}
@@ -8,7 +8,7 @@ use Rattle.cine_nums.specs.declared.orient.Orient.{Orient}
 use Rattle.cine_nums.specs.declared.orient.Orient.TheVariants.{LL, HL, LH, HH}
 use Rattle.band_geometry.specs.Bands.{HasBand}
 use Rattle.band_geometry.specs.declared.geometry.Geometry.{Geometry}
-use Rattle.dz_quantiser.specs.Bands.{range_of, planes_of, step_of, band_planes, IsUsableAt}
+use Rattle.dz_quantiser.specs.Bands.{range_of, planes_of, band_planes}
 use Rattle.dz_quantiser.specs.Bands.{AreUsable}
 use Rattle.dz_quantiser.specs.Usable.{IsUsable}
 use Rattle.dz_quantiser.specs.declared.band.BandStep.{BandStep}
@@ -25,9 +25,9 @@ third : (j : ℕ) → (j % 3 ≡ 0) ⊎ (j % 3 ≡ 1) ⊎ (j % 3 ≡ 2)
 third j = elim (cases_lt (j % 3) 1) [
   | inl none ↦ inl (omega (arith, none))
   | inr some ↦ elim (cases_lt (j % 3) 2) [
-      | inl one ↦ inr (inl (omega (arith, some, one)))
-      | inr two ↦ inr (inr (omega (arith, two)))
-    ]
+    | inl one ↦ inr (inl (omega (arith, some, one)))
+    | inr two ↦ inr (inr (omega (arith, two)))
+  ]
 ]
 
 taken_at : (levels : ℕ) (steps : StepSizes) → AreUsable levels steps → (k : ℕ) →
@@ -35,11 +35,11 @@ taken_at : (levels : ℕ) (steps : StepSizes) → AreUsable levels steps → (k 
 taken_at levels steps usable zero below = (LL, usable.lowest)
 taken_at levels steps usable (suc j) below =
     let at : (n : ℕ) → n ≡ suc j → (o : Orient) →
-        IsUsable (range_of o) (planes_of steps.guard (get_or steps.bands.items n no_step).exponent)
-        (get_or steps.bands.items n no_step) →
-        IsTaken steps.guard (get_or steps.bands.items (suc j) no_step) =
-        λ n same o is. subst (λ m. IsTaken steps.guard (get_or steps.bands.items m no_step)) same
-        (o, is) in
+    IsUsable (range_of o) (planes_of steps.guard (get_or steps.bands.items n no_step).exponent)
+    (get_or steps.bands.items n no_step) →
+    IsTaken steps.guard (get_or steps.bands.items (suc j) no_step) =
+    λ n same o is. subst (λ m. IsTaken steps.guard (get_or steps.bands.items m no_step)) same
+    (o, is) in
     elim (third j) [
       | inl none ↦ at (3 * (j / 3 + 1 - 1) + 1) (omega arith) HL
           (usable.above (j / 3 + 1) HL (omega arith) (omega arith))

@@ -8,5 +8,6 @@ pub mod Chosen
 pub mod Shapes
 pub mod Words
 pub mod Reads
--- What a codestream that is written is read as.
+-- What a codestream that is spelled is read as, and one of a choice of coding passes.
+pub mod Spelled
 pub mod Shown

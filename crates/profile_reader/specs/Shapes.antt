@@ -1,6 +1,6 @@
 -- The shape of a packet: how many code-blocks its precinct has of each band, and their magnitude
 -- bit-planes (ISO/IEC 15444-1, B.7 and B.10).
-use Rattle.std.specs.Prelude.{ℕ, ◌-◌, List, map}
+use Rattle.std.specs.Prelude.{◌-◌, List, map}
 use Rattle.cine_nums.specs.declared.orient.Orient.{Orient}
 use Rattle.band_geometry.specs.Bands.{precinct_blocks_of}
 use Rattle.band_geometry.specs.Numbering.{orients_of}

@@ -1,6 +1,7 @@
 // Laws of the definitions, for the crates above: a call of one of these functions, which do
 // nothing, gives the caller its clause.
-ghost use Rattle.profile_reader.specs.Shown.{SpelledReads, ChosenReads, DecodesTo};
+ghost use Rattle.profile_reader.specs.Shown.{ChosenReads, DecodesTo};
+ghost use Rattle.profile_reader.specs.Spelled.{SpelledReads};
 
 use codeblock_views::assembled;
 use ebcot_contexts::{few_symbols, meaning_holds, read_back};
@@ -10,7 +11,7 @@ use mq_coder::{code_form, few_bytes};
 /// header, the bit-planes and passes of each block, and the planes that are put together from the
 /// cells of the blocks.
 pub fn spelled_reads()
-    ensures { SpelledReads }
+    ensures reads { SpelledReads }
 {
     assembled();
 }

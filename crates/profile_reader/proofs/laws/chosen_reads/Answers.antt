@@ -11,4 +11,7 @@ returns c =
       meaning_holds = c.meaning_holds.ensures;
       read_back = c.read_back.ensures;
     } in
-    record { reads = chosen_is_read laws c.spelled_reads.ensures; decodes_to = decodes_to laws }
+    record {
+      reads = chosen_is_read laws c.spelled_reads.ensures.reads;
+      decodes_to = decodes_to laws;
+    }
