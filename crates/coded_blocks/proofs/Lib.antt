@@ -1,0 +1,3 @@
+mod Joining
+mod Looking
+mod Planes

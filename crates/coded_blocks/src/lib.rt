@@ -1,0 +1,21 @@
+//! The code-blocks of a frame with all their coding passes coded (ISO/IEC 15444-1, Annexes C and
+//! D).
+//!
+//! [`CodedBlocks::code`] codes every coding pass of every code-block once. Afterwards what is
+//! written of a block of which the first passes are included is a look-up: its entry in the packet
+//! header, its bytes, and the distortion that these passes leave. `specs/Coded` says what the
+//! object holds: `AreCoded` for the coefficients of a frame.
+//!
+//! Blocks are named by their number in the geometry, and passes are counted from 0. The only
+//! refusal is out of memory.
+#![tactic(auto)]
+
+mod blocks;
+mod frame;
+mod lookup;
+mod row;
+
+pub use blocks::CodedBlocks;
+
+#[cfg(test)]
+mod tests;
