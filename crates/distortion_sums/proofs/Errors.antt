@@ -6,7 +6,7 @@ use Rattle.std.proofs.lemmas.Bool.{cases_lt, eqb-true, eqb-false}
 use Rattle.std.proofs.lemmas.Nat.{shr-shr, pow_pos, mod_below, div-add-mod'}
 use Rattle.dz_quantiser.specs.Error.{middle, distance, square, squared_error}
 use Rattle.ebcot_contexts.specs.Cells.{bit_of}
-use Rattle.distortion_sums.specs.Sums.{offset}
+use Rattle.distortion_sums.specs.Places.{offset}
 
 halves : (m p : ℕ) → m / 2 ^ suc p ≡ m / 2 ^ p / 2
 halves m p = let e : suc p ≡ p + 1 = omega arith in ap (λ (n : ℕ). m / 2 ^ n) e
@@ -16,7 +16,7 @@ middle_some : (n u : ℕ) → 0 < n → middle n u ≡ (2 * n + 1) * 2 ^ u
 middle_some zero u l = absurd (omega arith)
 middle_some (suc n) u l = refl
 
-middle_whole : (m : ℕ) → 0 < m → middle m 0 ≡ 2 * m + 1
+pub middle_whole : (m : ℕ) → 0 < m → middle m 0 ≡ 2 * m + 1
 middle_whole m l = middle_some m 0 l ∙ (let e : (2 * m + 1) * 1 ≡ 2 * m + 1 = omega arith in e)
 
 square_sum : (d b : ℕ) → d * d + 2 * ((d + b) * b) ≡ (d + b) * (d + b) + b * b
@@ -43,7 +43,7 @@ squares a b = elim (cases_lt a b) [
 ]
 
 -- while nothing but zeros is known, the whole index is the error
-unknown_error : (m u : ℕ) → m / 2 ^ u ≡ 0 → squared_error m u ≡ middle m 0 * middle m 0
+pub unknown_error : (m u : ℕ) → m / 2 ^ u ≡ 0 → squared_error m u ≡ middle m 0 * middle m 0
 unknown_error m u z =
     ap (λ (n : ℕ). square (distance (middle m 0) (middle n u))) z
     ∙ ap square (let e : distance (middle m 0) 0 ≡ middle m 0 = omega arith in e)

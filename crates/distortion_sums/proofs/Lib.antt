@@ -1,3 +1,4 @@
 pub mod Bounds
 pub mod Errors
+pub mod Starts
 pub mod Steps

@@ -1,11 +1,11 @@
 -- The distortion of a block before and after a place is coded, and the sums of a pass.
-use Rattle.std.proofs.Common.{ℕ, zero, suc, ◌+◌, ◌-◌, ◌*◌, ◌/◌, ◌^◌, ◌<◌, ◌≡◌, Bool, true, false}
+use Rattle.std.proofs.Common.{ℕ, zero, suc, ◌+◌, ◌-◌, ◌*◌, ◌/◌, ◌%◌, ◌^◌, ◌<◌, ◌≤◌, ◌≡◌, Bool, true, false}
 use Rattle.std.proofs.Common.{List, [], ◌∷◌, length, set, refl, sym, ap, ◌∙◌, arith}
 use Rattle.dz_quantiser.specs.Error.{squared_error}
 use Rattle.ebcot_contexts.specs.Cells.{Cell, cell_at, coef_at, bit_of, become_significant}
 use Rattle.ebcot_contexts.specs.Passes.{learned}
 use Rattle.distortion_sums.specs.Distortion.{error_sum}
-use Rattle.distortion_sums.specs.Sums.{IsAfterNew, offset, IsAfterRefined}
+use Rattle.distortion_sums.specs.Places.{IsNext, offset}
 use Rattle.distortion_sums.proofs.Errors.{zero_error, new_error, refined_error}
 
 abbrev error_at : List (ℕ × Bool) → ℕ → ℕ → ℕ
@@ -24,13 +24,7 @@ error_set (m ∷ ms) (c ∷ cs) (suc i) x l k =
     error_set ms cs i x (omega arith) (omega arith) in
     omega arith
 
--- Place i of a block is coded in plane p: its bits down to the plane above are known.
-pub record IsCoded (coefs : List (ℕ × Bool)) (cells : List Cell) (p i : ℕ) : Type 0 where
-  pub inside : i < length cells
-  pub there : i < length coefs
-  pub untouched : (cell_at cells i).unknown ≡ suc p
-
-module _ (coefs : List (ℕ × Bool)) (cells : List Cell) (p i : ℕ) (o : IsCoded coefs cells p i) where
+module _ (coefs : List (ℕ × Bool)) (cells : List Cell) (p i : ℕ) (o : IsNext coefs cells p i) where
   abbrev m : ℕ
   m = (coef_at coefs i).0
 
@@ -52,33 +46,33 @@ module _ (coefs : List (ℕ × Bool)) (cells : List Cell) (p i : ℕ) (o : IsCod
       omega arith
 
   -- a place that becomes significant
-  pub new_takes : (from sum count : ℕ) (negative : Bool) → m / 2 ^ suc p ≡ 0 → bit_of m p ≡ true
-      → IsAfterNew p from (error_sum coefs cells) sum count
-      → IsAfterNew p from (error_sum coefs
-      (set cells i (become_significant p negative (cell_at cells i)))) (sum + m) (count + 1)
-  new_takes from sum count negative z b h =
-      by from sum count (error_sum coefs cells)
+  pub new_takes : (negative : Bool) → m / 2 ^ suc p ≡ 0 → bit_of m p ≡ true
+      → error_sum coefs cells + 3 * 2 ^ p * (3 * 2 ^ p)
+      ≡ error_sum coefs (set cells i (become_significant p negative (cell_at cells i)))
+      + 3 * 2 ^ p * (4 * m + 2)
+  new_takes negative z b =
+      by (error_sum coefs cells)
       (error_sum coefs (set cells i (become_significant p negative (cell_at cells i))))
-      (3 * 2 ^ p) m
-      (squared_error m (suc p)) (squared_error m p) h (changed _ refl) (new_error m p z b)
+      (3 * 2 ^ p * (3 * 2 ^ p)) (3 * 2 ^ p * (4 * m + 2))
+      (squared_error m (suc p)) (squared_error m p) (changed _ refl) (new_error m p z b)
     where
-      by : (from sum count was is t m e f : ℕ) →
-          from + t * t * count ≡ was + t * (4 * sum + 2 * count) → is + e ≡ was + f →
-          e + t * t ≡ f + t * (4 * m + 2)
-          → from + t * t * (count + 1) ≡ is + t * (4 * (sum + m) + 2 * (count + 1))
-      by from sum count was is t m e f h c n = omega arith
+      by : (was is t x e f : ℕ) → is + e ≡ was + f → e + t ≡ f + x → was + t ≡ is + x
+      by was is t x e f c n = omega arith
 
   -- a place that is refined
-  pub refined_takes : (from sum count : ℕ) (b : Bool) → 0 < m / 2 ^ suc p
-      → IsAfterRefined p from (error_sum coefs cells) sum count
-      → IsAfterRefined p from (error_sum coefs (learned p b i cells)) (sum + offset p m) (count + 1)
-  refined_takes from sum count b some h =
-      by from sum count (error_sum coefs cells) (error_sum coefs (learned p b i cells)) (2 ^ p)
-      (offset p m)
-      (squared_error m (suc p)) (squared_error m p) h (changed _ refl) (refined_error m p some)
+  pub refined_takes : (b : Bool) → 0 < m / 2 ^ suc p
+      → error_sum coefs cells + 2 ^ p * 2 ^ p
+      ≡ error_sum coefs (learned p b i cells) + 2 * (2 ^ p * (2 * offset p m + 1))
+  refined_takes b some =
+      by (error_sum coefs cells) (error_sum coefs (learned p b i cells)) (2 ^ p * 2 ^ p)
+      (2 * (2 ^ p * (2 * offset p m + 1)))
+      (squared_error m (suc p)) (squared_error m p) (changed _ refl) (refined_error m p some)
     where
-      by : (from sum count was is t x e f : ℕ) →
-          from + t * t * count ≡ was + 2 * t * (2 * sum + count) → is + e ≡ was + f →
-          e + t * t ≡ f + 2 * (t * (2 * x + 1))
-          → from + t * t * (count + 1) ≡ is + 2 * t * (2 * (sum + x) + (count + 1))
-      by from sum count was is t x e f h c n = omega arith
+      by : (was is t x e f : ℕ) → is + e ≡ was + f → e + t ≡ f + x → was + t ≡ is + x
+      by was is t x e f c n = omega arith
+
+-- the same in 64 bits
+pub wrapped : (was is t x : ℕ) → was + t ≡ is + x → x ≤ 18446744073709551616
+    → ((was % 18446744073709551616 + t) % 18446744073709551616 + (18446744073709551616 - x))
+    % 18446744073709551616 ≡ is % 18446744073709551616
+wrapped was is t x e few = omega arith

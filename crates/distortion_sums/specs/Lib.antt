@@ -1,3 +1,3 @@
 pub mod Coefs
 pub mod Distortion
-pub mod Sums
+pub mod Places

@@ -1,17 +1,15 @@
-//! The distortion of a code-block after its first passes, from two sums of each pass.
+//! The distortion of a code-block after its first passes, place by place.
 //!
 //! `specs/Distortion` is the definition: the sum over the block's places of the squared error of an
 //! index of which the bit-planes are unknown that the passes leave unknown, in units of half a step
-//! squared. `specs/Sums` says what a pass takes from it: a significance or cleanup pass by the sum
-//! of the magnitudes that became significant, a refinement pass by the sum of the refined ones'
-//! offsets, and both by the number of such places. The lemmas of `proofs/Steps` follow that place
-//! by place, so no block is walked a second time.
+//! squared. [`with_new`] and [`with_refined`] carry it over a place that a pass codes, so no block
+//! is walked a second time. They work in 64 bits and wrap; the distortion of a block is less.
 //!
 //! Nothing takes memory or is refused.
 #![tactic(auto)]
 
-mod sums;
+mod places;
 #[cfg(test)]
 mod tests;
 
-pub use sums::{after_new, after_refined};
+pub use places::{undecoded_error, with_new, with_refined};

@@ -11,6 +11,7 @@ use Rattle.mq_coder.specs.declared.mark.Mark.{Mark}
 use Rattle.ebcot_contexts.specs.Contexts.{Shape}
 use Rattle.ebcot_contexts.specs.Laws.{shaped}
 use Rattle.ebcot_contexts.specs.Meaning.{symbols_of}
+use Rattle.distortion_sums.specs.Distortion.{distortion}
 use Rattle.ebcot_passes.specs.Code.{IsPass, ArePasses}
 use Rattle.ebcot_passes.specs.declared.coded.CodedPass.{CodedPass}
 
@@ -51,9 +52,10 @@ pub one_more : (coefs : List (ℕ × Bool)) (s : Shape) (k least : ℕ) (passes 
     → least ≤ pass.mark.count
     → ((m : Mark) (symbols : List (ℕ × Bool)) → m.count ≤ least → IsMarkOf m old symbols →
     IsMarkOf m new symbols)
-    → IsMarkOf pass.mark new (symbols_of coefs s (suc k)) → pass.mark.count ≤ 68023
+    → IsMarkOf pass.mark new (symbols_of coefs s (suc k))
+    → pass.distortion ≡ distortion coefs s (suc k) → pass.mark.count ≤ 68023
     → ArePasses coefs s (suc k) (passes ++ pass ∷ []) new
-one_more coefs s k least passes pass old new before below grown kept mark few =
+one_more coefs s k least passes pass old new before below grown kept mark left few =
     record {
       count = length-append passes (pass ∷ []) ∙ (let e = before.count in omega arith);
       each = λ j other within.
@@ -65,6 +67,7 @@ one_more coefs s k least passes pass old new before below grown kept mark few =
                 record {
                   mark = kept (get_or passes j other).mark (symbols_of coefs s (suc j))
                       (below j other lt) was.mark;
+                  distortion_is = was.distortion_is;
                   few = was.few;
                 })
             | inr ge ↦
@@ -73,7 +76,7 @@ one_more coefs s k least passes pass old new before below grown kept mark few =
                 (subst (λ (p : CodedPass). IsPass coefs s k p new)
                 (sym (subst (λ (v : ℕ). get_or (passes ++ pass ∷ []) v other ≡ pass) before.count
                 (get_or-append_seam passes pass [] other)))
-                (record { mark = mark; few = few }))
+                (record { mark = mark; distortion_is = left; few = few }))
           ];
       grows = λ i j other order within.
           pushed (λ p. (get_or (passes ++ pass ∷ []) i other).mark.count ≤ p.mark.count)

@@ -1,5 +1,13 @@
 -- A block, pass by pass.
-use Rattle.std.proofs.Common.{ℕ, zero, suc, ◌+◌, ◌-◌, ◌*◌, ◌%◌, ◌<◌, ◌≤◌, ◌≡◌, Bool, List, []}
+use Rattle.std.proofs.Common.{◌^◌, ◌%◌}
+use Rattle.std.proofs.lemmas.Nat.{mul-le}
+use Rattle.std.proofs.Math.Nat.{mod-eq_of_lt, pow-le-pow_right}
+use Rattle.ebcot_contexts.specs.Cells.{coef_at}
+use Rattle.distortion_sums.specs.Distortion.{distortion}
+use Rattle.distortion_sums.proofs.Bounds.{block_few}
+use Rattle.ebcot_passes.specs.Block.{IsAfter}
+use Rattle.ebcot_passes.specs.declared.block.BlockCoder.{BlockCoder}
+use Rattle.std.proofs.Common.{ℕ, zero, suc, ◌+◌, ◌-◌, ◌*◌, ◌<◌, ◌≤◌, ◌≡◌, Bool, List, []}
 use Rattle.std.proofs.Common.{◌++◌, length, refl, sym, ap, ◌∙◌, subst, arith}
 use Rattle.std.proofs.lemmas.List.{length-take-le}
 use Rattle.mq_coder.specs.Code.{Coding, start_coding, coded}
@@ -9,13 +17,16 @@ use Rattle.mq_coder.specs.declared.mark.Mark.{Mark}
 use Rattle.mq_coder.specs.Encoder.{Stands, count_of}
 use Rattle.mq_coder.proofs.Grown.{few_bytes}
 use Rattle.ebcot_contexts.proofs.Counts.{at_most}
-use Rattle.mq_coder.specs.declared.encoder.Encoder.{Encoder}
+use Rattle.ebcot_passes.specs.PassCoder.{PassCoder}
 use Rattle.ebcot_contexts.specs.Cells.{Cell}
 use Rattle.ebcot_contexts.specs.Contexts.{Shape}
 use Rattle.ebcot_contexts.specs.Asks.{symbols, outcome}
 use Rattle.ebcot_contexts.specs.Passes.{Kind, significance, refinement, cleanup, kind_at, kind_of}
 use Rattle.ebcot_contexts.specs.Passes.{plane_of, columns, scan, pass, passes, start, block}
-use Rattle.ebcot_contexts.specs.Meaning.{symbols_of, known_after}
+use Rattle.ebcot_contexts.specs.Meaning.{symbols_of, known_after, IsBlock}
+use Rattle.ebcot_contexts.proofs.Views.{start_tells}
+use Rattle.distortion_sums.specs.Places.{IsHeld}
+use Rattle.mq_coder.specs.declared.encoder.Encoder.{Encoder}
 use Rattle.ebcot_contexts.proofs.Trees.{at_outcome}
 use Rattle.ebcot_contexts.proofs.Shown.{Sound}
 use Rattle.ebcot_contexts.proofs.Blocks.{block_honest}
@@ -33,12 +44,22 @@ known_sound coefs s k = at_outcome (Sound (s.width * s.height)) coefs (block s k
 
 -- what is known before a pass
 pub block_holds : (coefs : List (ℕ × Bool)) (s : Shape) (k p : ℕ) (words : List ℕ)
-    (encoder : Encoder)
-    → AreFlags s.width p (known_after coefs s k) words → Stands encoder (symbols_of coefs s k)
-    → Holds s p (known_after coefs s k) (symbols_of coefs s k) words encoder
-block_holds coefs s k p words encoder flags stands =
+    (coder : PassCoder)
+    → IsBlock coefs s → IsHeld coder.distortion coefs (known_after coefs s k)
+    → AreFlags s.width p (known_after coefs s k) words
+    → Stands coder.encoder (symbols_of coefs s k)
+    → Holds coefs s p (known_after coefs s k) (symbols_of coefs s k) words coder
+block_holds coefs s k p words coder fits held flags stands =
     let sound = known_sound coefs s k in
-    record { long = sound.long; plain = sound.plain; flags = flags; stands = stands }
+    record {
+      long = sound.long;
+      whole = fits.long;
+      plain = sound.plain;
+      shown = (block_honest coefs s k).on (start_tells s coefs fits);
+      flags = flags;
+      stands = stands;
+      held = held;
+    }
 
 pass_is : (s : Shape) (k : ℕ) (cells : List Cell) →
     pass s k cells ≡ columns (kind_of k) s (plane_of s k) (scan s.width s.height) cells
@@ -47,12 +68,12 @@ pass_is s k cells = refl
 
 -- what is known after it
 pub next_holds : (coefs : List (ℕ × Bool)) (s : Shape) (k p : ℕ) (kind : Kind) (words : List ℕ)
-    (encoder : Encoder)
+    (coder : PassCoder)
     → kind_of k ≡ kind → plane_of s k ≡ p
     → HoldsAfter coefs s p (columns kind s p (scan s.width s.height) (known_after coefs s k))
-    (symbols_of coefs s k) words encoder
-    → Holds s p (known_after coefs s (suc k)) (symbols_of coefs s (suc k)) words encoder
-next_holds coefs s k p kind words encoder ek ep h =
+    (symbols_of coefs s k) words coder
+    → Holds coefs s p (known_after coefs s (suc k)) (symbols_of coefs s (suc k)) words coder
+next_holds coefs s k p kind words coder ek ep h =
     let same : pass s k (known_after coefs s k)
     ≡ columns kind s p (scan s.width s.height) (known_after coefs s k) =
     pass_is s k (known_after coefs s k)
@@ -64,10 +85,11 @@ next_holds coefs s k p kind words encoder ek ep h =
     ≡ symbols_of coefs s k ++ symbols coefs
     (columns kind s p (scan s.width s.height) (known_after coefs s k)) =
     pass_symbols coefs s k ∙ ap (λ t. symbols_of coefs s k ++ symbols coefs t) same in
-    subst (λ (cs : List Cell). Holds s p cs (symbols_of coefs s (suc k)) words encoder) (sym cells)
-    (subst (λ (l : List (ℕ × Bool)). Holds s p
+    subst (λ (cs : List Cell). Holds coefs s p cs (symbols_of coefs s (suc k)) words coder)
+    (sym cells)
+    (subst (λ (l : List (ℕ × Bool)). Holds coefs s p
     (outcome coefs (columns kind s p (scan s.width s.height)
-    (known_after coefs s k))) l words encoder) (sym coded) h)
+    (known_after coefs s k))) l words coder) (sym coded) h)
 
 pub kind_significance : (k : ℕ) → (k + 2) % 3 ≡ 0 → kind_of k ≡ significance
 kind_significance k e = ap kind_at e
@@ -161,3 +183,32 @@ first_left m contexts buffer h e =
       };
       contexts = e;
     }
+
+-- the distortion of a block that was left fits in 64 bits
+left_few : (coefs : List (ℕ × Bool)) (s : Shape) (k j : ℕ) (b : BlockCoder) (buffer : List ℕ) →
+    IsAfter coefs s k b buffer → distortion coefs s j < 18446744073709551616
+left_few coefs s k j b buffer h =
+    let narrow = b.narrow in
+    let low = b.low in
+    let wide = h.wide in
+    let high = h.high in
+    let long : length coefs ≡ s.width * s.height = h.fits.long in
+    let most : s.width * s.height ≤ 32 * 32 =
+    mul-le s.width s.height 32 32 (omega arith) (omega arith) in
+    let few : s.planes ≤ 20 = (let p = h.planes_are in let f = b.few_planes in omega arith) in
+    block_few coefs (known_after coefs s j) (omega arith)
+    (λ i. let below : (coef_at coefs i).0 < 2 ^ s.planes = h.fits.below i in
+    let powers : 2 ^ s.planes ≤ 2 ^ 20 = pow-le-pow_right {n = 2} (omega arith) few in
+    omega arith)
+
+pub held_before : (coefs : List (ℕ × Bool)) (s : Shape) (k : ℕ) (b : BlockCoder)
+    (buffer : List ℕ) → IsAfter coefs s k b buffer
+    → IsHeld b.distortion coefs (known_after coefs s k)
+held_before coefs s k b buffer h =
+    h.distortion_is ∙ sym (mod-eq_of_lt (left_few coefs s k k b buffer h))
+
+pub exact_after : (coefs : List (ℕ × Bool)) (s : Shape) (k d : ℕ) (b : BlockCoder)
+    (buffer : List ℕ) → IsAfter coefs s k b buffer
+    → IsHeld d coefs (known_after coefs s (suc k)) → d ≡ distortion coefs s (suc k)
+exact_after coefs s k d b buffer h held =
+    held ∙ mod-eq_of_lt (left_few coefs s k (suc k) b buffer h)

@@ -2,9 +2,9 @@
 use Rattle.std.proofs.Common.{◌&&◌, not, ℕ, zero, suc, ◌+◌, ◌*◌, ◌<◌, ◌≤◌, ◌≡◌, Bool, true, false}
 use Rattle.std.proofs.Common.{List, [], ◌∷◌, ◌++◌, length, get_or, take}
 use Rattle.std.proofs.Common.{refl, sym, ap, ◌∙◌, subst, arith, append_assoc, append-nil}
-use Rattle.std.proofs.lemmas.Bool.{and_parts}
+use Rattle.std.proofs.lemmas.Bool.{and_parts, eqb-true}
 use Rattle.std.proofs.lemmas.List.{length-set}
-use Rattle.mq_coder.specs.declared.encoder.Encoder.{Encoder}
+use Rattle.ebcot_passes.specs.PassCoder.{PassCoder}
 use Rattle.ebcot_contexts.specs.Cells.{Cell, cell_at, coef_at, bit_of, is_significant}
 use Rattle.ebcot_contexts.specs.Contexts.{Shape, is_quiet}
 use Rattle.ebcot_contexts.specs.Asks.{symbols, outcome}
@@ -17,12 +17,12 @@ use Rattle.ebcot_passes.specs.Runs.{zeros_of, row_place, AreRows, AreNew, IsSett
 use Rattle.ebcot_passes.proofs.Places.{untouched_inside, not_true, coef_word}
 use Rattle.ebcot_passes.proofs.ColumnLemmas.{Nested, rows_hold}
 use Rattle.ebcot_passes.proofs.RunLemmas.{Answers, run_holds, run_column, plain_column, rows_differ}
-use Rattle.ebcot_passes.proofs.RunLemmas.{other_cell}
+use Rattle.ebcot_passes.proofs.RunLemmas.{other_cell, other_open}
 use Rattle.ebcot_passes.proofs.Settling.{settled_kept}
 
 -- where the four places of a column are calm, they are insignificant places of the block
 pub calm_new : (s : Shape) (p a b c d : ℕ) (cells : List Cell) → all_calm s p cells a b c d ≡ true →
-    AreNew cells a b c d
+    AreNew p cells a b c d
 calm_new s p a b c d cells e =
     let abc = and_parts _ _ e in
     let ab = and_parts _ _ abc.0 in
@@ -44,6 +44,10 @@ calm_new s p a b c d cells e =
       in_second = untouched_inside p b cells ub.0;
       in_third = untouched_inside p c cells uc.0;
       in_fourth = untouched_inside p d cells ud.0;
+      open_first = eqb-true _ _ ua.0;
+      open_second = eqb-true _ _ ub.0;
+      open_third = eqb-true _ _ uc.0;
+      open_fourth = eqb-true _ _ ud.0;
     }
 
 -- the words of a column's places in the grid
@@ -82,18 +86,64 @@ no_answers coefs p a b c d row e four =
     let z = all_zero _ _ _ _ (rw e at four) in
     record { a_is = z.0; b_is = z.1; c_is = z.2; d_is = z.3 }
 
+-- the bits of the rows before the first 1
+pub row_zeros : (x y z v : Bool) →
+    (1 ≤ zeros_of x y z v → x ≡ false) × (2 ≤ zeros_of x y z v → y ≡ false)
+    × (3 ≤ zeros_of x y z v → z ≡ false) × (4 ≤ zeros_of x y z v → v ≡ false)
+row_zeros true y z v = (
+  λ h. absurd (omega arith),
+  λ h. absurd (omega arith),
+  λ h. absurd (omega arith),
+  λ h. absurd (omega arith),
+)
+row_zeros false true z v =
+    (λ h. refl, λ h. absurd (omega arith), λ h. absurd (omega arith), λ h. absurd (omega arith))
+row_zeros false false true v =
+    (λ h. refl, λ h. refl, λ h. absurd (omega arith), λ h. absurd (omega arith))
+row_zeros false false false true = (λ h. refl, λ h. refl, λ h. refl, λ h. absurd (omega arith))
+row_zeros false false false false = (λ h. refl, λ h. refl, λ h. refl, λ h. refl)
+
+-- the bit of the first 1 itself
+pub row_one : (coefs : List (ℕ × Bool)) (p a b c d row : ℕ)
+    → row ≡ zeros_of (bit_of (coef_at coefs a).0 p) (bit_of (coef_at coefs b).0 p)
+    (bit_of (coef_at coefs c).0 p) (bit_of (coef_at coefs d).0 p)
+    → row < 4 → bit_of (coef_at coefs (row_place row a b c d)).0 p ≡ true
+row_one coefs p a b c d row is few =
+    one_by coefs p a b c d row _ _ _ _ refl refl refl refl is few
+  where
+    one_by : (coefs : List (ℕ × Bool)) (p a b c d row : ℕ) (x y z v : Bool)
+        → bit_of (coef_at coefs a).0 p ≡ x → bit_of (coef_at coefs b).0 p ≡ y
+        → bit_of (coef_at coefs c).0 p ≡ z → bit_of (coef_at coefs d).0 p ≡ v
+        → row ≡ zeros_of x y z v → row < 4
+        → bit_of (coef_at coefs (row_place row a b c d)).0 p ≡ true
+    one_by coefs p a b c d row true y z v ea eb ec ed is few =
+        subst (λ (r : ℕ). bit_of (coef_at coefs (row_place r a b c d)).0 p ≡ true) (sym is) ea
+    one_by coefs p a b c d row false true z v ea eb ec ed is few =
+        subst (λ (r : ℕ). bit_of (coef_at coefs (row_place r a b c d)).0 p ≡ true) (sym is) eb
+    one_by coefs p a b c d row false false true v ea eb ec ed is few =
+        subst (λ (r : ℕ). bit_of (coef_at coefs (row_place r a b c d)).0 p ≡ true) (sym is) ec
+    one_by coefs p a b c d row false false false true ea eb ec ed is few =
+        subst (λ (r : ℕ). bit_of (coef_at coefs (row_place r a b c d)).0 p ≡ true) (sym is) ed
+    one_by coefs p a b c d row false false false false ea eb ec ed is few = absurd (omega arith)
+
 -- The place of the first 1, after the zeros before it.
 pub record Picked (w p column stripe row n j i : ℕ) (cells : List Cell) : Type 0 where
   pub at : IsRow w i column stripe row n j
   pub inside : i < length cells
   pub none : is_significant (cell_at cells i) ≡ false
+  pub open_place : (cell_at cells i).unknown ≡ suc p
 
 pub picked : (w p column stripe row n j a b c d : ℕ) (cells : List Cell) →
-    AreRows w column stripe n j a b c d → AreNew cells a b c d → row < 4
+    AreRows w column stripe n j a b c d → AreNew p cells a b c d → row < 4
     → Picked w p column stripe row n j (row_place row a b c d)
     (zeros p (take row (a ∷ b ∷ c ∷ d ∷ [])) cells)
 picked w p column stripe zero n j a b c d cells rows new few =
-    record { at = rows.first; inside = new.in_first; none = new.first }
+    record {
+      at = rows.first;
+      inside = new.in_first;
+      none = new.first;
+      open_place = new.open_first;
+    }
 picked w p column stripe (suc zero) n j a b c d cells rows new few =
     record {
       at = rows.second;
@@ -101,6 +151,9 @@ picked w p column stripe (suc zero) n j a b c d cells rows new few =
       none = other_cell cells a b _
           (rows_differ w b a column stripe 1 0 n n j rows.second rows.first
           (λ e. omega arith)) new.second;
+      open_place = other_open cells a b (suc p) _
+          (rows_differ w b a column stripe 1 0 n n j rows.second rows.first
+          (λ e. omega arith)) new.open_second;
     }
 picked w p column stripe (suc (suc zero)) n j a b c d cells rows new few =
     record {
@@ -110,6 +163,11 @@ picked w p column stripe (suc (suc zero)) n j a b c d cells rows new few =
           (rows_differ w c b column stripe 2 1 n n j rows.third rows.second (λ e. omega arith))
           (other_cell cells a c _ (rows_differ w c a column stripe 2 0 n n j rows.third rows.first
           (λ e. omega arith)) new.third);
+      open_place = other_open (learned p false a cells) b c (suc p) _
+          (rows_differ w c b column stripe 2 1 n n j rows.third rows.second (λ e. omega arith))
+          (other_open cells a c (suc p) _
+          (rows_differ w c a column stripe 2 0 n n j rows.third rows.first
+          (λ e. omega arith)) new.open_third);
     }
 picked w p column stripe (suc (suc (suc zero))) n j a b c d cells rows new few =
     record {
@@ -121,6 +179,13 @@ picked w p column stripe (suc (suc (suc zero))) n j a b c d cells rows new few =
           (rows_differ w d b column stripe 3 1 n n j rows.fourth rows.second (λ e. omega arith))
           (other_cell cells a d _ (rows_differ w d a column stripe 3 0 n n j rows.fourth rows.first
           (λ e. omega arith)) new.fourth));
+      open_place = other_open (learned p false b (learned p false a cells)) c d (suc p) _
+          (rows_differ w d c column stripe 3 2 n n j rows.fourth rows.third (λ e. omega arith))
+          (other_open (learned p false a cells) b d (suc p) _
+          (rows_differ w d b column stripe 3 1 n n j rows.fourth rows.second (λ e. omega arith))
+          (other_open cells a d (suc p) _
+          (rows_differ w d a column stripe 3 0 n n j rows.fourth rows.first
+          (λ e. omega arith)) new.open_fourth));
     }
 picked w p column stripe (suc (suc (suc (suc k)))) n j a b c d cells rows new few =
     absurd (omega arith)
@@ -175,33 +240,33 @@ pub record KeepLong (coefs : List (ℕ × Bool)) (s : Shape) (p a b c : ℕ)
       (visit cleanup s p b (outcome coefs (visit cleanup s p a cells)))))) ≡ s.width * s.height
 
 pub cleanup_holds : (coefs : List (ℕ × Bool)) (s : Shape) (p : ℕ) (is : List ℕ) (a b c d : ℕ)
-    (cells : List Cell) (l : List (ℕ × Bool)) (words : List ℕ) (encoder : Encoder) (t : Bool)
+    (cells : List Cell) (l : List (ℕ × Bool)) (words : List ℕ) (coder : PassCoder) (t : Bool)
     → all_calm s p cells a b c d ≡ t → length cells ≡ s.width * s.height →
     IsSplit (s.width * s.height) is a b c d
     → KeepLong coefs s p a b c (outcome coefs (column_head s p a b c d cells))
     → Nested coefs s p cleanup (a ∷ b ∷ c ∷ d ∷ []) (outcome coefs (column_head s p a b c d cells))
-    (l ++ symbols coefs (column_head s p a b c d cells)) words encoder
-    → HoldsAfter coefs s p (column cleanup s p is cells) l words encoder
-cleanup_holds coefs s p is a b c d cells l words encoder true e long split keep held =
+    (l ++ symbols coefs (column_head s p a b c d cells)) words coder
+    → HoldsAfter coefs s p (column cleanup s p is cells) l words coder
+cleanup_holds coefs s p is a b c d cells l words coder true e long split keep held =
     let new = calm_new s p a b c d cells e in
     let inside = new.in_fourth in
-    run_column coefs s p is a b c d (s.width * s.height) cells l words encoder split (omega arith) e
-    (run_holds coefs s p a b c d cells l words encoder _ _ _ _ (own_answers coefs p a b c d) new
+    run_column coefs s p is a b c d (s.width * s.height) cells l words coder split (omega arith) e
+    (run_holds coefs s p a b c d cells l words coder _ _ _ _ (own_answers coefs p a b c d) new
     (subst (λ (v : Bool). Nested coefs s p cleanup (a ∷ b ∷ c ∷ d ∷ [])
     (outcome coefs (calm_head s p a b c d cells v))
-    (l ++ symbols coefs (calm_head s p a b c d cells v)) words encoder) e held))
-cleanup_holds coefs s p is a b c d cells l words encoder false e long split keep held =
-    let rows : Nested coefs s p cleanup (a ∷ b ∷ c ∷ d ∷ []) cells (l ++ []) words encoder =
+    (l ++ symbols coefs (calm_head s p a b c d cells v)) words coder) e held))
+cleanup_holds coefs s p is a b c d cells l words coder false e long split keep held =
+    let rows : Nested coefs s p cleanup (a ∷ b ∷ c ∷ d ∷ []) cells (l ++ []) words coder =
     subst (λ (v : Bool). Nested coefs s p cleanup (a ∷ b ∷ c ∷ d ∷ [])
     (outcome coefs (calm_head s p a b c d cells v))
-    (l ++ symbols coefs (calm_head s p a b c d cells v)) words encoder) e held in
+    (l ++ symbols coefs (calm_head s p a b c d cells v)) words coder) e held in
     let kept : KeepLong coefs s p a b c cells =
     subst (λ (v : Bool). KeepLong coefs s p a b c
     (outcome coefs (calm_head s p a b c d cells v))) e keep in
-    plain_column coefs s p is a b c d (s.width * s.height) cells l words encoder split e
-    (rows_hold coefs s p cleanup is a b c d cells l words encoder split kept.one kept.two kept.three
+    plain_column coefs s p is a b c d (s.width * s.height) cells l words coder split e
+    (rows_hold coefs s p cleanup is a b c d cells l words coder split kept.one kept.two kept.three
     (subst (λ (k : List (ℕ × Bool)). Nested coefs s p cleanup
-    (a ∷ b ∷ c ∷ d ∷ []) cells k words encoder) (append-nil l) rows))
+    (a ∷ b ∷ c ∷ d ∷ []) cells k words coder) (append-nil l) rows))
 
 -- a column of which a place has been coded has no run mode
 pub touched_calm : (s : Shape) (p a b c d : ℕ) (cells : List Cell)

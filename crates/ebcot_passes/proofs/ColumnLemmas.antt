@@ -8,7 +8,7 @@ use Rattle.std.proofs.lemmas.Bool.{ne_eqb}
 use Rattle.std.proofs.lemmas.List.{get_or_past}
 use Rattle.std.proofs.lemmas.Nat.{and_mask, and_mod, and_le_r}
 use Rattle.std.proofs.lemmas.Nat.Bits.{bit_at_and, bit_at-zero, bit_at-lt}
-use Rattle.mq_coder.specs.declared.encoder.Encoder.{Encoder}
+use Rattle.ebcot_passes.specs.PassCoder.{PassCoder}
 use Rattle.ebcot_contexts.specs.Cells.{Cell, fresh, cell_at, is_significant}
 use Rattle.ebcot_contexts.specs.Contexts.{Shape, is_quiet}
 use Rattle.ebcot_contexts.specs.Asks.{Asks, chain, symbols, outcome}
@@ -23,19 +23,20 @@ use Rattle.ebcot_passes.proofs.Places.{visit_case, not_visited}
 
 -- one row of questions after another
 pub chained : (s : Shape) (p : ℕ) (coefs l : List (ℕ × Bool)) (t : Asks) (f : List Cell → Asks)
-    (words : List ℕ) (encoder : Encoder)
-    → HoldsAfter coefs s p (f (outcome coefs t)) (l ++ symbols coefs t) words encoder
-    → HoldsAfter coefs s p (chain t f) l words encoder
-chained s p coefs l t f words encoder h =
+    (words : List ℕ) (coder : PassCoder)
+    → HoldsAfter coefs s p (f (outcome coefs t)) (l ++ symbols coefs t) words coder
+    → HoldsAfter coefs s p (chain t f) l words coder
+chained s p coefs l t f words coder h =
     let last : List Cell = outcome coefs (f (outcome coefs t)) in
-    let joined : Holds s p last (l
-    ++ (symbols coefs t ++ symbols coefs (f (outcome coefs t)))) words encoder =
-    subst (λ (k : List (ℕ × Bool)). Holds s p last k words encoder)
+    let joined : Holds coefs s p last (l
+    ++ (symbols coefs t ++ symbols coefs (f (outcome coefs t)))) words coder =
+    subst (λ (k : List (ℕ × Bool)). Holds coefs s p last k words coder)
     (append_assoc l (symbols coefs t) (symbols coefs (f (outcome coefs t)))) h in
-    let named : Holds s p last (l ++ symbols coefs (chain t f)) words encoder =
-    subst (λ (k : List (ℕ × Bool)). Holds s p last (l ++ k) words encoder)
+    let named : Holds coefs s p last (l ++ symbols coefs (chain t f)) words coder =
+    subst (λ (k : List (ℕ × Bool)). Holds coefs s p last (l ++ k) words coder)
     (sym (symbols_chain coefs t f)) joined in
-    subst (λ (cells : List Cell). Holds s p cells (l ++ symbols coefs (chain t f)) words encoder)
+    subst (λ (cells : List Cell). Holds coefs s p cells (l ++ symbols coefs (chain t f)) words
+    coder)
     (sym (outcome_chain coefs t f)) named
 
 outside_touched : (p i : ℕ) (cells : List Cell) → length cells ≤ i →
@@ -56,47 +57,47 @@ outside_uncoded cleanup s p i cells past = outside_touched p i cells past
 
 -- a place that is not coded changes nothing
 pub skipped : (kind : Kind) (s : Shape) (p i : ℕ) (coefs l : List (ℕ × Bool)) (cells : List Cell)
-    (words : List ℕ) (encoder : Encoder)
+    (words : List ℕ) (coder : PassCoder)
     → is_coded kind s p i cells ≡ false →
-    HoldsAfter coefs s p (visit kind s p i cells) l words encoder →
-    Holds s p cells l words encoder
-skipped kind s p i coefs l cells words encoder uncoded h =
-    subst (λ (k : List (ℕ × Bool)). Holds s p cells k words encoder) (append-nil l)
-    (subst (λ (a : Asks). HoldsAfter coefs s p a l words encoder)
+    HoldsAfter coefs s p (visit kind s p i cells) l words coder →
+    Holds coefs s p cells l words coder
+skipped kind s p i coefs l cells words coder uncoded h =
+    subst (λ (k : List (ℕ × Bool)). Holds coefs s p cells k words coder) (append-nil l)
+    (subst (λ (a : Asks). HoldsAfter coefs s p a l words coder)
     (visit_case kind s p i cells false uncoded) h)
 
 -- what is known and coded after places in turn
 abbrev pub Nested : List (ℕ × Bool) → Shape → ℕ → Kind → List ℕ → List Cell → List (ℕ × Bool) →
-    List ℕ → Encoder → Type 0
-Nested coefs s p kind [] cells l words encoder = Holds s p cells l words encoder
-Nested coefs s p kind (i ∷ is) cells l words encoder =
+    List ℕ → PassCoder → Type 0
+Nested coefs s p kind [] cells l words coder = Holds coefs s p cells l words coder
+Nested coefs s p kind (i ∷ is) cells l words coder =
     Nested coefs s p kind is (outcome coefs (visit kind s p i cells))
-    (l ++ symbols coefs (visit kind s p i cells)) words encoder
+    (l ++ symbols coefs (visit kind s p i cells)) words coder
 
 pub nested_each : (coefs : List (ℕ × Bool)) (s : Shape) (p : ℕ) (kind : Kind) (is : List ℕ)
-    (cells : List Cell) (l : List (ℕ × Bool)) (words : List ℕ) (encoder : Encoder)
-    → Nested coefs s p kind is cells l words encoder →
-    HoldsAfter coefs s p (each kind s p is cells) l words encoder
-nested_each coefs s p kind [] cells l words encoder h =
-    subst (λ (k : List (ℕ × Bool)). Holds s p cells k words encoder) (sym (append-nil l)) h
-nested_each coefs s p kind (i ∷ is) cells l words encoder h =
-    chained s p coefs l (visit kind s p i cells) (each kind s p is) words encoder
+    (cells : List Cell) (l : List (ℕ × Bool)) (words : List ℕ) (coder : PassCoder)
+    → Nested coefs s p kind is cells l words coder →
+    HoldsAfter coefs s p (each kind s p is cells) l words coder
+nested_each coefs s p kind [] cells l words coder h =
+    subst (λ (k : List (ℕ × Bool)). Holds coefs s p cells k words coder) (sym (append-nil l)) h
+nested_each coefs s p kind (i ∷ is) cells l words coder h =
+    chained s p coefs l (visit kind s p i cells) (each kind s p is) words coder
     (nested_each coefs s p kind is (outcome coefs (visit kind s p i cells))
-    (l ++ symbols coefs (visit kind s p i cells)) words encoder h)
+    (l ++ symbols coefs (visit kind s p i cells)) words coder h)
 
 -- a first place that is not coded
 pub drop_first : (coefs : List (ℕ × Bool)) (s : Shape) (p : ℕ) (kind : Kind) (i : ℕ) (is : List ℕ)
-    (cells : List Cell) (l : List (ℕ × Bool)) (words : List ℕ) (encoder : Encoder)
-    → is_coded kind s p i cells ≡ false → Nested coefs s p kind (i ∷ is) cells l words encoder →
-    Nested coefs s p kind is cells l words encoder
-drop_first coefs s p kind i is cells l words encoder uncoded h =
-    subst (λ (k : List (ℕ × Bool)). Nested coefs s p kind is cells k words encoder) (append-nil l)
+    (cells : List Cell) (l : List (ℕ × Bool)) (words : List ℕ) (coder : PassCoder)
+    → is_coded kind s p i cells ≡ false → Nested coefs s p kind (i ∷ is) cells l words coder →
+    Nested coefs s p kind is cells l words coder
+drop_first coefs s p kind i is cells l words coder uncoded h =
+    subst (λ (k : List (ℕ × Bool)). Nested coefs s p kind is cells k words coder) (append-nil l)
     (subst (λ (a : Asks). Nested coefs s p kind is (outcome coefs a)
-    (l ++ symbols coefs a) words encoder) (visit_case kind s p i cells false uncoded) h)
+    (l ++ symbols coefs a) words coder) (visit_case kind s p i cells false uncoded) h)
 
 -- The four rows of a column, of which the last ones may be outside.
 pub rows_hold : (coefs : List (ℕ × Bool)) (s : Shape) (p : ℕ) (kind : Kind) (is : List ℕ)
-    (a b c d : ℕ) (cells : List Cell) (l : List (ℕ × Bool)) (words : List ℕ) (encoder : Encoder)
+    (a b c d : ℕ) (cells : List Cell) (l : List (ℕ × Bool)) (words : List ℕ) (coder : PassCoder)
     → IsSplit (s.width * s.height) is a b c d
     → length (outcome coefs (visit kind s p a cells)) ≡ s.width * s.height
     → length (outcome coefs (visit kind s p b (outcome coefs (visit kind s p a cells))))
@@ -104,51 +105,51 @@ pub rows_hold : (coefs : List (ℕ × Bool)) (s : Shape) (p : ℕ) (kind : Kind)
     → length (outcome coefs (visit kind s p c
     (outcome coefs (visit kind s p b (outcome coefs (visit kind s p a cells))))))
     ≡ s.width * s.height
-    → Nested coefs s p kind (a ∷ b ∷ c ∷ d ∷ []) cells l words encoder
-    → HoldsAfter coefs s p (each kind s p is cells) l words encoder
-rows_hold coefs s p kind is a b c d cells l words encoder (inl e) l1 l2 l3 h =
-    subst (λ (js : List ℕ). HoldsAfter coefs s p (each kind s p js cells) l words encoder) (sym e)
-    (nested_each coefs s p kind (a ∷ b ∷ c ∷ d ∷ []) cells l words encoder h)
-rows_hold coefs s p kind is a b c d cells l words encoder (inr (inl (nd, e))) l1 l2 l3 h =
-    subst (λ (js : List ℕ). HoldsAfter coefs s p (each kind s p js cells) l words encoder) (sym e)
-    (nested_each coefs s p kind (a ∷ b ∷ c ∷ []) cells l words encoder
-    (skipped kind s p d coefs _ _ words encoder
+    → Nested coefs s p kind (a ∷ b ∷ c ∷ d ∷ []) cells l words coder
+    → HoldsAfter coefs s p (each kind s p is cells) l words coder
+rows_hold coefs s p kind is a b c d cells l words coder (inl e) l1 l2 l3 h =
+    subst (λ (js : List ℕ). HoldsAfter coefs s p (each kind s p js cells) l words coder) (sym e)
+    (nested_each coefs s p kind (a ∷ b ∷ c ∷ d ∷ []) cells l words coder h)
+rows_hold coefs s p kind is a b c d cells l words coder (inr (inl (nd, e))) l1 l2 l3 h =
+    subst (λ (js : List ℕ). HoldsAfter coefs s p (each kind s p js cells) l words coder) (sym e)
+    (nested_each coefs s p kind (a ∷ b ∷ c ∷ []) cells l words coder
+    (skipped kind s p d coefs _ _ words coder
     (outside_uncoded kind s p d _ (omega (arith, l3))) h))
-rows_hold coefs s p kind is a b c d cells l words encoder (inr (inr (inl (nc, nd, e)))) l1 l2 l3 h =
-    subst (λ (js : List ℕ). HoldsAfter coefs s p (each kind s p js cells) l words encoder) (sym e)
-    (nested_each coefs s p kind (a ∷ b ∷ []) cells l words encoder
-    (skipped kind s p c coefs _ _ words encoder (outside_uncoded kind s p c _ (omega (arith, l2)))
-    (skipped kind s p d coefs _ _ words encoder
+rows_hold coefs s p kind is a b c d cells l words coder (inr (inr (inl (nc, nd, e)))) l1 l2 l3 h =
+    subst (λ (js : List ℕ). HoldsAfter coefs s p (each kind s p js cells) l words coder) (sym e)
+    (nested_each coefs s p kind (a ∷ b ∷ []) cells l words coder
+    (skipped kind s p c coefs _ _ words coder (outside_uncoded kind s p c _ (omega (arith, l2)))
+    (skipped kind s p d coefs _ _ words coder
     (outside_uncoded kind s p d _ (omega (arith, l3))) h)))
-rows_hold coefs s p kind is a b c d cells l words encoder
+rows_hold coefs s p kind is a b c d cells l words coder
     (inr (inr (inr (nb, nc, nd, e)))) l1 l2 l3 h =
-    subst (λ (js : List ℕ). HoldsAfter coefs s p (each kind s p js cells) l words encoder) (sym e)
-    (nested_each coefs s p kind (a ∷ []) cells l words encoder
-    (skipped kind s p b coefs _ _ words encoder (outside_uncoded kind s p b _ (omega (arith, l1)))
-    (skipped kind s p c coefs _ _ words encoder (outside_uncoded kind s p c _ (omega (arith, l2)))
-    (skipped kind s p d coefs _ _ words encoder
+    subst (λ (js : List ℕ). HoldsAfter coefs s p (each kind s p js cells) l words coder) (sym e)
+    (nested_each coefs s p kind (a ∷ []) cells l words coder
+    (skipped kind s p b coefs _ _ words coder (outside_uncoded kind s p b _ (omega (arith, l1)))
+    (skipped kind s p c coefs _ _ words coder (outside_uncoded kind s p c _ (omega (arith, l2)))
+    (skipped kind s p d coefs _ _ words coder
     (outside_uncoded kind s p d _ (omega (arith, l3))) h))))
 
 -- A column of which nothing is coded.
 pub none_coded : (coefs : List (ℕ × Bool)) (s : Shape) (p : ℕ) (kind : Kind) (is : List ℕ)
-    (a b c d : ℕ) (cells : List Cell) (l : List (ℕ × Bool)) (words : List ℕ) (encoder : Encoder)
+    (a b c d : ℕ) (cells : List Cell) (l : List (ℕ × Bool)) (words : List ℕ) (coder : PassCoder)
     → IsSplit (s.width * s.height) is a b c d
-    → ((cs : List Cell) (k : List (ℕ × Bool)) → Holds s p cs k words encoder →
+    → ((cs : List Cell) (k : List (ℕ × Bool)) → Holds coefs s p cs k words coder →
     is_coded kind s p a cs ≡ false)
-    → ((cs : List Cell) (k : List (ℕ × Bool)) → Holds s p cs k words encoder →
+    → ((cs : List Cell) (k : List (ℕ × Bool)) → Holds coefs s p cs k words coder →
     is_coded kind s p b cs ≡ false)
-    → ((cs : List Cell) (k : List (ℕ × Bool)) → Holds s p cs k words encoder →
+    → ((cs : List Cell) (k : List (ℕ × Bool)) → Holds coefs s p cs k words coder →
     is_coded kind s p c cs ≡ false)
-    → ((cs : List Cell) (k : List (ℕ × Bool)) → Holds s p cs k words encoder →
+    → ((cs : List Cell) (k : List (ℕ × Bool)) → Holds coefs s p cs k words coder →
     is_coded kind s p d cs ≡ false)
-    → Holds s p cells l words encoder
-    → HoldsAfter coefs s p (each kind s p is cells) l words encoder
-none_coded coefs s p kind is a b c d cells l words encoder split ua ub uc ud h =
-    let h1 = not_visited kind s p a coefs l cells words encoder (ua cells l h) h in
-    let h2 = not_visited kind s p b coefs _ _ words encoder (ub _ _ h1) h1 in
-    let h3 = not_visited kind s p c coefs _ _ words encoder (uc _ _ h2) h2 in
-    let h4 = not_visited kind s p d coefs _ _ words encoder (ud _ _ h3) h3 in
-    rows_hold coefs s p kind is a b c d cells l words encoder split h1.long h2.long h3.long h4
+    → Holds coefs s p cells l words coder
+    → HoldsAfter coefs s p (each kind s p is cells) l words coder
+none_coded coefs s p kind is a b c d cells l words coder split ua ub uc ud h =
+    let h1 = not_visited kind s p a coefs l cells words coder (ua cells l h) h in
+    let h2 = not_visited kind s p b coefs _ _ words coder (ub _ _ h1) h1 in
+    let h3 = not_visited kind s p c coefs _ _ words coder (uc _ _ h2) h2 in
+    let h4 = not_visited kind s p d coefs _ _ words coder (ud _ _ h3) h3 in
+    rows_hold coefs s p kind is a b c d cells l words coder split h1.long h2.long h3.long h4
 
 -- Tests of a whole column.
 

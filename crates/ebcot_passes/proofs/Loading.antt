@@ -1,4 +1,13 @@
 -- The coefficients of a block, copied into a grid.
+use Rattle.std.proofs.Common.{zero, replicate}
+use Rattle.dz_quantiser.specs.Error.{squared_error}
+use Rattle.ebcot_contexts.specs.Cells.{fresh}
+use Rattle.ebcot_contexts.specs.Contexts.{Shape}
+use Rattle.ebcot_contexts.specs.Meaning.{IsBlock, known_after}
+use Rattle.distortion_sums.specs.Distortion.{error_sum, distortion}
+use Rattle.distortion_sums.specs.Places.{start_sum}
+use Rattle.distortion_sums.proofs.Starts.{start_more, start_all, zeros_none}
+use Rattle.ebcot_passes.proofs.Blocks.{known_none}
 use Rattle.std.proofs.Common.{ℕ, suc, ◌+◌, ◌*◌, ◌/◌, ◌%◌, ◌^◌, ◌<◌, ◌≤◌, ◌≡◌, ◌≢◌, inl, inr, Bool, true, false}
 use Rattle.std.proofs.Common.{List, [], ◌∷◌, length, get_or, set, refl, sym, ap, ◌∙◌, subst, arith}
 use Rattle.std.specs.Prelude.{if◌then◌else◌}
@@ -10,7 +19,7 @@ use Rattle.std.proofs.Math.ListN.{get_or-map}
 use Rattle.dz_quantiser.specs.Coefficient.{Coefficient, zero_coefficient}
 use Rattle.dz_quantiser.specs.Coefficient.{word_of as coefficient_word}
 use Rattle.cine_nums.specs.Bits.{bit_len}
-use Rattle.cine_nums.proofs.BitLength.{bit_len-within}
+use Rattle.cine_nums.proofs.BitLength.{bit_len-within, bit_len-above}
 use Rattle.codeblock_views.specs.Magnitudes.{AreSmall, largest, block_planes}
 use Rattle.ebcot_contexts.specs.Cells.{coef_at, number}
 use Rattle.distortion_sums.specs.Coefs.{coefs_of}
@@ -113,3 +122,67 @@ planes_few cells planes is small =
     let few : bit_len (largest cells) ≤ 20 =
     bit_len-within (largest cells) 20 (largest_few cells small) in
     subst (λ (v : ℕ). v ≤ 20) (sym is) few
+
+-- a place of a row is one of the block
+pub row_place : (w h y x : ℕ) → x < w → y < h → y * w + x < h * w
+row_place w h y x column row =
+    let fits : suc y * w ≤ h * w = mul-le (suc y) w h w row (omega arith) in
+    let split : suc y * w ≡ y * w + w = omega arith in
+    omega arith
+
+-- the error of one place more
+pub sum_next : (planes n from sum error : ℕ) (cells : List Coefficient) → n < length cells
+    → error ≡ squared_error (get_or cells n zero_coefficient).magnitude planes
+    → from + sum ≡ start_sum planes n (coefs_of cells)
+    → from + (sum + error) ≡ start_sum planes (suc n) (coefs_of cells)
+sum_next planes n from sum error cells inside is before =
+    let long : length (coefs_of cells) ≡ length cells =
+    length-map cells (λ (q : Coefficient). (q.magnitude, q.negative)) in
+    let more : start_sum planes (suc n) (coefs_of cells)
+    ≡ start_sum planes n (coefs_of cells) + squared_error (coef_at (coefs_of cells) n).0 planes =
+    start_more planes n (coefs_of cells) (omega arith) in
+    let same : squared_error (coef_at (coefs_of cells) n).0 planes
+    ≡ squared_error (get_or cells n zero_coefficient).magnitude planes =
+    ap (λ (c : ℕ × Bool). squared_error c.0 planes) (coef_is cells n) in
+    omega arith
+
+-- the magnitudes of a block are below 2 to the number of its bit-planes
+largest_most : (cells : List Coefficient) (i : ℕ) →
+    (get_or cells i zero_coefficient).magnitude ≤ largest cells
+largest_most [] i = omega arith
+largest_most (q ∷ qs) zero = omega arith
+largest_most (q ∷ qs) (suc i) = let rest = largest_most qs i in omega arith
+
+pub planes_fit : (cells : List Coefficient) (planes i : ℕ) → planes ≡ block_planes cells →
+    (coef_at (coefs_of cells) i).0 < 2 ^ planes
+planes_fit cells planes i is =
+    let above : largest cells < 2 ^ block_planes cells = bit_len-above (largest cells) in
+    let most : (get_or cells i zero_coefficient).magnitude ≤ largest cells = largest_most cells i in
+    let same : (coef_at (coefs_of cells) i).0 ≡ (get_or cells i zero_coefficient).magnitude =
+    ap (λ (c : ℕ × Bool). c.0) (coef_is cells i) in
+    subst (λ (n : ℕ). (coef_at (coefs_of cells) i).0 < 2 ^ n) (sym is) (omega arith)
+
+pub block_fits : (cells : List Coefficient) (s : Shape) (h w : ℕ) → s.planes ≡ block_planes cells →
+    length cells ≡ h * w → s.width ≡ w → s.height ≡ h → IsBlock (coefs_of cells) s
+block_fits cells s h w is long wide high =
+    let turned : h * w ≡ w * h = omega arith in
+    record {
+      long = length-map cells (λ (q : Coefficient). (q.magnitude, q.negative)) ∙ long ∙ turned
+          ∙ (λ i. sym wide i * sym high i);
+      below = λ i. planes_fit cells s.planes i is;
+    }
+
+-- the distortion of a block of which nothing is known
+pub start_is : (coefs : List (ℕ × Bool)) (s : Shape) (d : ℕ) → IsBlock coefs s →
+    d ≡ start_sum s.planes (length coefs) coefs → d ≡ distortion coefs s 0
+start_is coefs s d fits is =
+    is ∙ start_all s.planes coefs
+    ∙ ap (λ (n : ℕ). error_sum coefs (replicate n (fresh s.planes))) fits.long
+    ∙ ap (error_sum coefs) (sym (known_none coefs s))
+
+-- of a block without a bit-plane nothing is left
+pub none_left : (coefs : List (ℕ × Bool)) (s : Shape) → IsBlock coefs s → s.planes ≡ 0 →
+    0 ≡ distortion coefs s 0
+none_left coefs s fits none =
+    sym (zeros_none coefs (known_after coefs s 0)
+    (λ i. subst (λ (n : ℕ). (coef_at coefs i).0 < 2 ^ n) none (fits.below i)))

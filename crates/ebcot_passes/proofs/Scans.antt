@@ -7,7 +7,7 @@ use Rattle.std.proofs.Math.Seq.{take-length}
 use Rattle.std.proofs.lemmas.Bool.{cases_lt, lt-ltb, le-ltb}
 use Rattle.std.proofs.lemmas.List.{take_more, length-map, get_or-map}
 use Rattle.std.proofs.lemmas.Nat.{div-mul-add, mod-mul-add, mul-add-lt}
-use Rattle.mq_coder.specs.declared.encoder.Encoder.{Encoder}
+use Rattle.ebcot_passes.specs.PassCoder.{PassCoder}
 use Rattle.ebcot_contexts.specs.Cells.{Cell}
 use Rattle.ebcot_contexts.specs.Contexts.{Shape}
 use Rattle.ebcot_contexts.specs.Asks.{symbols, outcome}
@@ -142,48 +142,48 @@ column_is w h t x within few low inside =
 
 -- one column more
 pub columns_on : (kind : Kind) (s : Shape) (p : ℕ) (coefs l : List (ℕ × Bool)) (cs : List (List ℕ))
-    (c : ℕ) (cells : List Cell) (words : List ℕ) (encoder : Encoder)
+    (c : ℕ) (cells : List Cell) (words : List ℕ) (coder : PassCoder)
     → c < length cs
     → HoldsAfter coefs s p (column kind s p (get_or cs c [])
     (outcome coefs (columns kind s p (take c cs) cells)))
-    (l ++ symbols coefs (columns kind s p (take c cs) cells)) words encoder
-    → HoldsAfter coefs s p (columns kind s p (take (c + 1) cs) cells) l words encoder
-columns_on kind s p coefs l cs c cells words encoder inside h =
+    (l ++ symbols coefs (columns kind s p (take c cs) cells)) words coder
+    → HoldsAfter coefs s p (columns kind s p (take (c + 1) cs) cells) l words coder
+columns_on kind s p coefs l cs c cells words coder inside h =
     let is : List ℕ = get_or cs c [] in
     let t : List (List ℕ) = take c cs in
     let last : List Cell = outcome coefs
     (column kind s p is (outcome coefs (columns kind s p t cells))) in
-    let joined : Holds s p last (l
+    let joined : Holds coefs s p last (l
     ++ (symbols coefs (columns kind s p t cells)
     ++ symbols coefs (column kind s p is
-    (outcome coefs (columns kind s p t cells))))) words encoder =
-    subst (λ (k : List (ℕ × Bool)). Holds s p last k words encoder)
+    (outcome coefs (columns kind s p t cells))))) words coder =
+    subst (λ (k : List (ℕ × Bool)). Holds coefs s p last k words coder)
     (append_assoc l (symbols coefs (columns kind s p t cells))
     (symbols coefs (column kind s p is (outcome coefs (columns kind s p t cells))))) h in
-    let named : Holds s p last (l ++ symbols coefs
-    (columns kind s p (t ++ is ∷ []) cells)) words encoder =
-    subst (λ (k : List (ℕ × Bool)). Holds s p last (l ++ k) words encoder)
+    let named : Holds coefs s p last (l ++ symbols coefs
+    (columns kind s p (t ++ is ∷ []) cells)) words coder =
+    subst (λ (k : List (ℕ × Bool)). Holds coefs s p last (l ++ k) words coder)
     (sym (column_symbols coefs kind s p t is cells)) joined in
-    let whole : HoldsAfter coefs s p (columns kind s p (t ++ is ∷ []) cells) l words encoder =
-    subst (λ (known : List Cell). Holds s p known
-    (l ++ symbols coefs (columns kind s p (t ++ is ∷ []) cells)) words encoder)
+    let whole : HoldsAfter coefs s p (columns kind s p (t ++ is ∷ []) cells) l words coder =
+    subst (λ (known : List Cell). Holds coefs s p known
+    (l ++ symbols coefs (columns kind s p (t ++ is ∷ []) cells)) words coder)
     (sym (column_outcome coefs kind s p t is cells)) named in
-    subst (λ (js : List (List ℕ)). HoldsAfter coefs s p (columns kind s p js cells) l words encoder)
+    subst (λ (js : List (List ℕ)). HoldsAfter coefs s p (columns kind s p js cells) l words coder)
     (sym (take_more cs c [] inside)) whole
 
 -- one column more of stripe t
 stripe_on_own : (kind : Kind) (s : Shape) (p : ℕ) (coefs l : List (ℕ × Bool)) (t x : ℕ)
-    (cells : List Cell) (words : List ℕ) (encoder : Encoder)
+    (cells : List Cell) (words : List ℕ) (coder : PassCoder)
     → x < s.width → s.width ≤ 32 → t < 8 → 4 * t < s.height
     → ((is : List ℕ) → IsColumnAt s.width s.height is (suc x) (suc t) (34 * t + 35 + x)
     (128 * t + x)
     → HoldsAfter coefs s p (column kind s p is
     (outcome coefs (columns kind s p (take (t * s.width + x) (scan s.width s.height)) cells)))
     (l ++ symbols coefs (columns kind s p
-    (take (t * s.width + x) (scan s.width s.height)) cells)) words encoder)
+    (take (t * s.width + x) (scan s.width s.height)) cells)) words coder)
     → HoldsAfter coefs s p (columns kind s p
-    (take (t * s.width + (x + 1)) (scan s.width s.height)) cells) l words encoder
-stripe_on_own kind s p coefs l t x cells words encoder within few low inside step =
+    (take (t * s.width + (x + 1)) (scan s.width s.height)) cells) l words coder
+stripe_on_own kind s p coefs l t x cells words coder within few low inside step =
     let w : ℕ = s.width in
     let h : ℕ = s.height in
     let n : 34 * suc t + suc x ≡ 34 * t + 35 + x = omega arith in
@@ -195,72 +195,72 @@ stripe_on_own kind s p coefs l t x cells words encoder within few low inside ste
     scan_at w h t x within room in
     let held = subst (λ (js : List ℕ). HoldsAfter coefs s p
     (column kind s p js (outcome coefs (columns kind s p (take (t * w + x) (scan w h)) cells)))
-    (l ++ symbols coefs (columns kind s p (take (t * w + x) (scan w h)) cells)) words encoder)
+    (l ++ symbols coefs (columns kind s p (take (t * w + x) (scan w h)) cells)) words coder)
     (sym is) (step (column_from 4 w h x (4 * t)) col) in
     let e : t * w + x + 1 ≡ t * w + (x + 1) = omega arith in
     subst (λ (c : ℕ). HoldsAfter coefs s p
-    (columns kind s p (take c (scan w h)) cells) l words encoder) e
-    (columns_on kind s p coefs l (scan w h) (t * w + x) cells words encoder (omega arith) held)
+    (columns kind s p (take c (scan w h)) cells) l words coder) e
+    (columns_on kind s p coefs l (scan w h) (t * w + x) cells words coder (omega arith) held)
 
 pub stripe_on : (kind : Kind) (s : Shape) (p : ℕ) (coefs l : List (ℕ × Bool)) (width t x : ℕ)
-    (cells : List Cell) (words : List ℕ) (encoder : Encoder)
+    (cells : List Cell) (words : List ℕ) (coder : PassCoder)
     → s.width ≡ width → x < width → width ≤ 32 → t < 8 → 4 * t < s.height
     → ((is : List ℕ) → IsColumnAt s.width s.height is (suc x) (suc t) (34 * t + 35 + x)
     (128 * t + x)
     → HoldsAfter coefs s p (column kind s p is
     (outcome coefs (columns kind s p (take (t * width + x) (scan s.width s.height)) cells)))
     (l ++ symbols coefs (columns kind s p
-    (take (t * width + x) (scan s.width s.height)) cells)) words encoder)
+    (take (t * width + x) (scan s.width s.height)) cells)) words coder)
     → HoldsAfter coefs s p (columns kind s p
-    (take (t * width + (x + 1)) (scan s.width s.height)) cells) l words encoder
-stripe_on kind s p coefs l width t x cells words encoder e =
+    (take (t * width + (x + 1)) (scan s.width s.height)) cells) l words coder
+stripe_on kind s p coefs l width t x cells words coder e =
     subst (λ (v : ℕ). x < v → v ≤ 32 → t < 8 → 4 * t < s.height
     → ((is : List ℕ) → IsColumnAt s.width s.height is (suc x) (suc t) (34 * t + 35 + x)
     (128 * t + x)
     → HoldsAfter coefs s p (column kind s p is
     (outcome coefs (columns kind s p (take (t * v + x) (scan s.width s.height)) cells)))
     (l ++ symbols coefs (columns kind s p
-    (take (t * v + x) (scan s.width s.height)) cells)) words encoder)
+    (take (t * v + x) (scan s.width s.height)) cells)) words coder)
     → HoldsAfter coefs s p (columns kind s p
-    (take (t * v + (x + 1)) (scan s.width s.height)) cells) l words encoder) e
-    (stripe_on_own kind s p coefs l t x cells words encoder)
+    (take (t * v + (x + 1)) (scan s.width s.height)) cells) l words coder) e
+    (stripe_on_own kind s p coefs l t x cells words coder)
 
 -- the end of a stripe
 pub stripe_done : (kind : Kind) (s : Shape) (p : ℕ) (coefs l : List (ℕ × Bool)) (width t x : ℕ)
-    (cells : List Cell) (words : List ℕ) (encoder : Encoder)
+    (cells : List Cell) (words : List ℕ) (coder : PassCoder)
     → x ≡ width
     → HoldsAfter coefs s p (columns kind s p
-    (take (t * width + x) (scan s.width s.height)) cells) l words encoder
+    (take (t * width + x) (scan s.width s.height)) cells) l words coder
     → HoldsAfter coefs s p (columns kind s p
-    (take ((t + 1) * width) (scan s.width s.height)) cells) l words encoder
-stripe_done kind s p coefs l width t x cells words encoder e h =
+    (take ((t + 1) * width) (scan s.width s.height)) cells) l words coder
+stripe_done kind s p coefs l width t x cells words coder e h =
     let same : t * width + x ≡ (t + 1) * width = omega arith in
     subst (λ (c : ℕ). HoldsAfter coefs s p
-    (columns kind s p (take c (scan s.width s.height)) cells) l words encoder) same h
+    (columns kind s p (take c (scan s.width s.height)) cells) l words coder) same h
 
 -- no column yet
 pub pass_begun : (kind : Kind) (s : Shape) (p : ℕ) (coefs l : List (ℕ × Bool)) (width : ℕ)
-    (cells : List Cell) (words : List ℕ) (encoder : Encoder)
-    → Holds s p cells l words encoder
+    (cells : List Cell) (words : List ℕ) (coder : PassCoder)
+    → Holds coefs s p cells l words coder
     → HoldsAfter coefs s p (columns kind s p
-    (take (0 * width) (scan s.width s.height)) cells) l words encoder
-pass_begun kind s p coefs l width cells words encoder h =
+    (take (0 * width) (scan s.width s.height)) cells) l words coder
+pass_begun kind s p coefs l width cells words coder h =
     let none : 0 ≡ 0 * width = omega arith in
     subst (λ (c : ℕ). HoldsAfter coefs s p
-    (columns kind s p (take c (scan s.width s.height)) cells) l words encoder) none
-    (subst (λ (k : List (ℕ × Bool)). Holds s p cells k words encoder) (sym (append-nil l)) h)
+    (columns kind s p (take c (scan s.width s.height)) cells) l words coder) none
+    (subst (λ (k : List (ℕ × Bool)). Holds coefs s p cells k words coder) (sym (append-nil l)) h)
 
 -- all columns
 pub pass_done : (kind : Kind) (s : Shape) (p : ℕ) (coefs l : List (ℕ × Bool)) (width height t : ℕ)
-    (cells : List Cell) (words : List ℕ) (encoder : Encoder)
+    (cells : List Cell) (words : List ℕ) (coder : PassCoder)
     → s.width ≡ width → s.height ≡ height → t ≡ (height + 3) / 4
     → HoldsAfter coefs s p (columns kind s p
-    (take (t * width) (scan s.width s.height)) cells) l words encoder
-    → HoldsAfter coefs s p (columns kind s p (scan s.width s.height) cells) l words encoder
-pass_done kind s p coefs l width height t cells words encoder wide high e h =
+    (take (t * width) (scan s.width s.height)) cells) l words coder
+    → HoldsAfter coefs s p (columns kind s p (scan s.width s.height) cells) l words coder
+pass_done kind s p coefs l width height t cells words coder wide high e h =
     let long = scan_length s.width s.height in
     let rows : t ≡ (s.height + 3) / 4 = e ∙ ap (λ (v : ℕ). (v + 3) / 4) (sym high) in
     let whole : t * width ≡ length (scan s.width s.height) =
     ap (λ (v : ℕ). t * v) (sym wide) ∙ (ap (λ (v : ℕ). v * s.width) rows ∙ (omega arith)) in
-    subst (λ (cs : List (List ℕ)). HoldsAfter coefs s p (columns kind s p cs cells) l words encoder)
+    subst (λ (cs : List (List ℕ)). HoldsAfter coefs s p (columns kind s p cs cells) l words coder)
     (ap (λ (c : ℕ). take c (scan s.width s.height)) whole ∙ take-length (scan s.width s.height)) h

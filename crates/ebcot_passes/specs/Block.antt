@@ -3,7 +3,8 @@ use Rattle.std.specs.Prelude.{ℕ, ◌-◌, ◌≡◌, Bool, List}
 use Rattle.mq_coder.specs.Mark.{IsLeft}
 use Rattle.ebcot_contexts.specs.Contexts.{Shape}
 use Rattle.ebcot_contexts.specs.Passes.{start}
-use Rattle.ebcot_contexts.specs.Meaning.{symbols_of, known_after}
+use Rattle.ebcot_contexts.specs.Meaning.{symbols_of, known_after, IsBlock}
+use Rattle.distortion_sums.specs.Distortion.{distortion}
 use Rattle.flag_words.specs.Words.{AreFlags}
 use Rattle.ebcot_passes.specs.Coding.{AreCoefs, AreContexts}
 use Rattle.ebcot_passes.specs.Runs.{plane_before}
@@ -20,4 +21,6 @@ pub record IsAfter (coefs : List (ℕ × Bool)) (s : Shape) (k : ℕ) (b : Block
   pub blank : AreFlags s.width (s.planes - 1) (start s) b.blank
   pub passes_are : b.passes ≡ k
   pub flags : AreFlags s.width (plane_before s k) (known_after coefs s k) b.words
+  pub fits : IsBlock coefs s
+  pub distortion_is : b.distortion ≡ distortion coefs s k
   pub left : IsLeft b.mark b.coder buffer (symbols_of coefs s k)

@@ -3,6 +3,7 @@ use Rattle.std.specs.Prelude.{ℕ, suc, ◌*◌, ◌-◌, ◌<◌, ◌≤◌, �
 use Rattle.mq_coder.specs.Mark.{IsMarkOf}
 use Rattle.ebcot_contexts.specs.Contexts.{Shape}
 use Rattle.ebcot_contexts.specs.Meaning.{symbols_of}
+use Rattle.distortion_sums.specs.Distortion.{distortion}
 use Rattle.ebcot_passes.specs.declared.coded.CodedPass.{CodedPass}
 
 -- how many passes a block has, by its bit-planes: three for each, less two, and none where it has
@@ -11,10 +12,11 @@ abbrev pub passes_of : ℕ → ℕ
 passes_of planes = 3 * planes - 2
 
 -- Pass k of a block, counted from 0, was coded to a buffer: its mark stands for the symbols of the
--- passes up to it.
+-- passes up to it, and its distortion is what they leave.
 pub record IsPass (coefs : List (ℕ × Bool)) (s : Shape) (k : ℕ) (pass : CodedPass)
     (buffer : List ℕ) : Type 0 where
   pub mark : IsMarkOf pass.mark buffer (symbols_of coefs s (suc k))
+  pub distortion_is : pass.distortion ≡ distortion coefs s (suc k)
   pub few : pass.mark.count ≤ 68023
 
 -- the first k passes, and no more; the bytes that were put out don't get fewer

@@ -4,9 +4,11 @@ use Rattle.std.specs.Prelude.{◌∷◌, ◌++◌, length, get_or, take}
 use Rattle.cine_nums.specs.declared.orient.Orient.{Orient}
 use Rattle.mq_coder.specs.Encoder.{Stands, count_of}
 use Rattle.mq_coder.specs.declared.encoder.Encoder.{Encoder}
-use Rattle.ebcot_contexts.specs.Cells.{Cell, cell_at, coef_at, number, IsPlain}
+use Rattle.ebcot_passes.specs.PassCoder.{PassCoder}
+use Rattle.ebcot_contexts.specs.Cells.{Cell, cell_at, coef_at, number, IsPlain, AllShow}
 use Rattle.ebcot_contexts.specs.Contexts.{Shape}
 use Rattle.ebcot_contexts.specs.Asks.{Asks, symbols, outcome}
+use Rattle.distortion_sums.specs.Places.{IsHeld}
 use Rattle.flag_words.specs.Words.{AreFlags, IsIn}
 use Rattle.flag_words.specs.Lookups.{neighbour_context}
 
@@ -39,20 +41,24 @@ pub record IsRow (w i column stripe r n j : ℕ) : Type 0 where
   pub last : stripe < 9
   pub grid : j + 32 * r ≡ 32 * (i / w) + i % w
 
--- What is known of a block in plane p, and what was coded of it: the words show the cells, and the
--- encoder stands for the symbols.
-pub record Holds (s : Shape) (p : ℕ) (cells : List Cell) (coded : List (ℕ × Bool)) (words : List ℕ)
-    (encoder : Encoder) : Type 0 where
+-- What is known of a block in plane p, and what was coded of it: the cells show the coefficients,
+-- the words show the cells, the encoder stands for the symbols, and the coder holds the distortion
+-- that is left.
+pub record Holds (coefs : List (ℕ × Bool)) (s : Shape) (p : ℕ) (cells : List Cell)
+    (coded : List (ℕ × Bool)) (words : List ℕ) (coder : PassCoder) : Type 0 where
   pub long : length cells ≡ s.width * s.height
+  pub whole : length coefs ≡ s.width * s.height
   pub plain : (i : ℕ) → IsPlain (cell_at cells i)
+  pub shown : AllShow cells coefs
   pub flags : AreFlags s.width p cells words
-  pub stands : Stands encoder coded
+  pub stands : Stands coder.encoder coded
+  pub held : IsHeld coder.distortion coefs cells
 
 -- the same after the coefficients' answers to some questions
-abbrev pub HoldsAfter : List (ℕ × Bool) → Shape → ℕ → Asks → List (ℕ × Bool) → List ℕ → Encoder →
-    Type 0
-HoldsAfter coefs s p asks coded words encoder =
-    Holds s p (outcome coefs asks) (coded ++ symbols coefs asks) words encoder
+abbrev pub HoldsAfter : List (ℕ × Bool) → Shape → ℕ → Asks → List (ℕ × Bool) → List ℕ →
+    PassCoder → Type 0
+HoldsAfter coefs s p asks coded words coder =
+    Holds coefs s p (outcome coefs asks) (coded ++ symbols coefs asks) words coder
 
 -- An encoder has gone on: it put out at most so many bytes more, and changed none before the last.
 pub record GoesOn (old new : Encoder) (most : ℕ) : Type 0 where

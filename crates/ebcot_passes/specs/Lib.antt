@@ -1,4 +1,5 @@
 pub mod Block
 pub mod Code
 pub mod Coding
+pub mod PassCoder
 pub mod Runs

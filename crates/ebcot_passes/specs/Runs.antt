@@ -57,8 +57,8 @@ pub record AreRows (w column stripe n j a b c d : ℕ) : Type 0 where
   pub third : IsRow w c column stripe 2 n j
   pub fourth : IsRow w d column stripe 3 n j
 
--- four insignificant places of the block
-pub record AreNew (cells : List Cell) (a b c d : ℕ) : Type 0 where
+-- four insignificant places of the block, which no pass of plane p has coded
+pub record AreNew (p : ℕ) (cells : List Cell) (a b c d : ℕ) : Type 0 where
   pub first : is_significant (cell_at cells a) ≡ false
   pub second : is_significant (cell_at cells b) ≡ false
   pub third : is_significant (cell_at cells c) ≡ false
@@ -67,6 +67,10 @@ pub record AreNew (cells : List Cell) (a b c d : ℕ) : Type 0 where
   pub in_second : b < length cells
   pub in_third : c < length cells
   pub in_fourth : d < length cells
+  pub open_first : (cell_at cells a).unknown ≡ suc p
+  pub open_second : (cell_at cells b).unknown ≡ suc p
+  pub open_third : (cell_at cells c).unknown ≡ suc p
+  pub open_fourth : (cell_at cells d).unknown ≡ suc p
 
 -- each place that is significant has been coded in plane p
 abbrev pub IsSettled : ℕ → List Cell → Type 0

@@ -2,10 +2,11 @@
 ghost use Rattle.std.specs.Prelude.{◌≡◌, ◌+◌, ◌-◌, ◌*◌, ◌<◌, ◌≤◌, ◌^◌, ℕ, Bool, true, false, List};
 ghost use Rattle.std.specs.Prelude.{[], ◌∷◌, ◌++◌, length, get_or, set, take};
 ghost use Rattle.mq_coder.specs.Encoder.{count_of};
-ghost use Rattle.mq_coder.specs.declared.encoder.Encoder.{Encoder};
+ghost use Rattle.ebcot_passes.specs.PassCoder.{PassCoder};
 ghost use Rattle.ebcot_contexts.specs.Cells.{Cell, cell_at, coef_at, bit_of, number};
 ghost use Rattle.ebcot_contexts.specs.Contexts.{Shape};
 ghost use Rattle.ebcot_contexts.specs.Passes.{cleanup, column, zeros};
+ghost use Rattle.ebcot_passes.specs.PassCoder.{coder_of};
 ghost use Rattle.ebcot_passes.specs.Coding.{AreCoefs, AreContexts, IsColumnAt, Holds, HoldsAfter};
 ghost use Rattle.ebcot_passes.specs.Coding.{GoesOn};
 ghost use Rattle.ebcot_passes.specs.Runs.{run_head, column_head, zeros_of, AreRows, AreNew};
@@ -19,7 +20,7 @@ use mq_coder::Encoder;
 /// Bit `p` of a coefficient's word of the grid.
 #[inline(always)]
 fn has_bit(coef: u32, p: u32) -> bool
-    requires { p < 31 }
+    requires { p < 20 }
     ensures { (m : ℕ) (negative : Bool) → coef ≡ m + 0x80000000 * number negative → m < 0x80000000 →
         result ≡ bit_of m p }
 {
@@ -30,7 +31,7 @@ fn has_bit(coef: u32, p: u32) -> bool
 #[inline(always)]
 fn zeros_before(grid: &[u32; 1024], j: usize, p: u32) -> u32
     requires grid { j + 96 < 1024 }
-    requires plane { p < 31 }
+    requires plane { p < 20 }
     ensures few { result ≤ 4 }
     ensures zeros { (w h column stripe n a b c d : ℕ) (coefs : List (ℕ × Bool)) →
         AreRows w column stripe n j a b c d → AreCoefs w h coefs grid.now →
@@ -57,11 +58,14 @@ fn zeros_before(grid: &[u32; 1024], j: usize, p: u32) -> u32
 #[inline(always)]
 fn touched(word: u32, rows: u32) -> u32
     requires { rows ≤ 4 }
-    ensures { (s : Shape) (p column stripe n j a b c d : ℕ) (cells : List Cell)
-        (l : List (ℕ × Bool)) (words : List ℕ) (encoder : Encoder) →
-        AreRows s.width column stripe n j a b c d → AreNew cells a b c d →
-        Holds s p cells l (set words n word) encoder →
-        Holds s p (zeros p (take rows (a ∷ b ∷ c ∷ d ∷ [])) cells) l (set words n result) encoder }
+    ensures { (s : Shape) (p column stripe n j a b c d : ℕ) (coefs : List (ℕ × Bool))
+        (cells : List Cell) (l : List (ℕ × Bool)) (words : List ℕ) (coder : PassCoder) →
+        AreRows s.width column stripe n j a b c d → AreNew p cells a b c d →
+        rows ≡ zeros_of (bit_of (coef_at coefs a).0 p) (bit_of (coef_at coefs b).0 p)
+        (bit_of (coef_at coefs c).0 p) (bit_of (coef_at coefs d).0 p) →
+        Holds coefs s p cells l (set words n word) coder →
+        Holds coefs s p (zeros p (take rows (a ∷ b ∷ c ∷ d ∷ [])) cells) l
+        (set words n result) coder }
 {
     let first = touch(word, 0);
     let second = touch(first, 1);
@@ -80,6 +84,7 @@ fn touched(word: u32, rows: u32) -> u32
 #[inline(always)]
 fn code_run(
     encoder: &mut Encoder<'_>,
+    distortion: &mut u64,
     words: &mut [u32; 340],
     grid: &[u32; 1024],
     n: usize,
@@ -90,14 +95,15 @@ fn code_run(
     requires some { 35 ≤ n }
     requires few { n + 35 < 340 }
     requires grid { j + 96 < 1024 }
-    requires plane { p < 31 }
+    requires plane { p < 20 }
     requires room { count_of encoder.old + 12 ≤ length encoder.old.bytes.now }
     ensures codes { (s : Shape) (column stripe a b c d : ℕ) (coefs l : List (ℕ × Bool))
         (cells : List Cell) →
-        AreRows s.width column stripe n j a b c d → AreNew cells a b c d →
+        AreRows s.width column stripe n j a b c d → AreNew p cells a b c d →
         AreCoefs s.width s.height coefs grid.now →
-        Holds s p cells l (set words.old n word) encoder.old →
-        HoldsAfter coefs s p (run_head s p a b c d cells) l (set words.new n result) encoder.new }
+        Holds coefs s p cells l (set words.old n word) (coder_of encoder.old distortion.old) →
+        HoldsAfter coefs s p (run_head s p a b c d cells) l (set words.new n result)
+        (coder_of encoder.new distortion.new) }
     ensures goes_on { GoesOn encoder.old encoder.new 12 }
 {
     let row = zeros_before(grid, j, p);
@@ -108,8 +114,8 @@ fn code_run(
     }
     encoder.put(18, 2 <= row);
     encoder.put(18, row % 2 == 1);
-    let negative = grid[j + 32 * row as usize] >> 31 == 1;
-    code_sign(encoder, words, n, before, row, negative)
+    let coef = grid[j + 32 * row as usize];
+    code_sign(encoder, distortion, words, n, before, row, coef, p)
 }
 
 /// Codes what a column asks before its places one by one: run mode, where it has it. Returns the
@@ -117,6 +123,7 @@ fn code_run(
 #[inline(always)]
 fn code_head(
     encoder: &mut Encoder<'_>,
+    distortion: &mut u64,
     words: &mut [u32; 340],
     grid: &[u32; 1024],
     n: usize,
@@ -126,20 +133,20 @@ fn code_head(
     requires some { 35 ≤ n }
     requires few { n + 35 < 340 }
     requires grid { j + 96 < 1024 }
-    requires plane { p < 31 }
+    requires plane { p < 20 }
     requires room { count_of encoder.old + 12 ≤ length encoder.old.bytes.now }
     ensures codes { (s : Shape) (at stripe a b c d : ℕ) (coefs l : List (ℕ × Bool))
         (cells : List Cell) →
         AreRows s.width at stripe n j a b c d →
         AreCoefs s.width s.height coefs grid.now →
-        Holds s p cells l words.old encoder.old →
+        Holds coefs s p cells l words.old (coder_of encoder.old distortion.old) →
         HoldsAfter coefs s p (column_head s p a b c d cells) l
-        (set words.new n result) encoder.new }
+        (set words.new n result) (coder_of encoder.new distortion.new) }
     ensures goes_on { GoesOn encoder.old encoder.new 12 }
 {
     let word = words[n];
     if codes_run(word) {
-        code_run(encoder, words, grid, n, j, word, p)
+        code_run(encoder, distortion, words, grid, n, j, word, p)
     } else {
         word
     }
@@ -149,6 +156,7 @@ fn code_head(
 #[inline(always)]
 pub fn cleanup_column(
     encoder: &mut Encoder<'_>,
+    distortion: &mut u64,
     words: &mut [u32; 340],
     grid: &[u32; 1024],
     contexts: &[u8; 512],
@@ -160,24 +168,31 @@ pub fn cleanup_column(
     requires few { n + 35 < 340 }
     requires grid { j + 96 < 1024 }
     requires contexts { (k : ℕ) → k < 512 → get_or contexts.now k 0 < 19 }
-    requires plane { p < 31 }
+    requires plane { p < 20 }
     requires room { count_of encoder.old + 36 ≤ length encoder.old.bytes.now }
     ensures codes { (s : Shape) (at stripe : ℕ) (is : List ℕ) (coefs l : List (ℕ × Bool))
         (cells : List Cell) →
         IsColumnAt s.width s.height is at stripe n j → AreContexts s.orient contexts.now →
         AreCoefs s.width s.height coefs grid.now → IsSettled p cells →
-        Holds s p cells l words.old encoder.old →
-        HoldsAfter coefs s p (column cleanup s p is cells) l words.new encoder.new }
+        Holds coefs s p cells l words.old (coder_of encoder.old distortion.old) →
+        HoldsAfter coefs s p (column cleanup s p is cells) l words.new
+        (coder_of encoder.new distortion.new) }
     ensures goes_on { GoesOn encoder.old encoder.new 36 }
 {
     // each place has been coded in this plane
     if words[n] & 0x4920_0000 == 0x4920_0000 {
         return;
     }
-    let word = code_head(encoder, words, grid, n, j, p);
-    let first = cleanup_row(encoder, words, grid, contexts, n, j, word, 0, p);
-    let second = cleanup_row(encoder, words, grid, contexts, n, j, first, 1, p);
-    let third = cleanup_row(encoder, words, grid, contexts, n, j, second, 2, p);
-    let fourth = cleanup_row(encoder, words, grid, contexts, n, j, third, 3, p);
+    let word = code_head(encoder, distortion, words, grid, n, j, p);
+    let first = cleanup_row(encoder, distortion, words, grid, contexts, n, j, word, 0, p);
+    let second = cleanup_row(
+        encoder, distortion, words, grid, contexts, n, j, first, 1, p,
+    );
+    let third = cleanup_row(
+        encoder, distortion, words, grid, contexts, n, j, second, 2, p,
+    );
+    let fourth = cleanup_row(
+        encoder, distortion, words, grid, contexts, n, j, third, 3, p,
+    );
     words[n] = fourth;
 }

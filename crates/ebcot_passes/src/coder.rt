@@ -3,10 +3,11 @@ ghost use Rattle.std.specs.Prelude.{◌≡◌, ◌<◌, ◌≤◌, ◌^◌, leng
 ghost use Rattle.ebcot_contexts.specs.Contexts.{Shape};
 ghost use Rattle.codeblock_views.specs.Magnitudes.{block_planes};
 ghost use Rattle.distortion_sums.specs.Coefs.{coefs_of};
+ghost use Rattle.distortion_sums.specs.Distortion.{distortion};
 ghost use Rattle.ebcot_passes.specs.Code.{IsBlockCode};
 
 use crate::block::BlockCoder;
-use crate::coded::{BlockCode, CodedPass};
+use crate::coded::BlockCode;
 use arrayvec::ArrayVec;
 use cine_nums::Orient;
 use codeblock_views::Coefs;
@@ -18,6 +19,9 @@ pub fn code<C: Coefs>(block: &C, orient: Orient, bytes: &mut [u8]) -> BlockCode
     requires room { 77312 ≤ length bytes.old }
     requires few { length bytes.old < 2 ^ 31 }
     ensures planes { result.planes ≡ block_planes (C.cells block.now) }
+    ensures start { (s : Shape) → s.orient ≡ orient → s.width ≡ C.columns block.now →
+        s.height ≡ C.rows block.now → s.planes ≡ result.planes →
+        result.start ≡ distortion (coefs_of (C.cells block.now)) s 0 }
     ensures codes { (s : Shape) → s.orient ≡ orient → s.width ≡ C.columns block.now →
         s.height ≡ C.rows block.now → s.planes ≡ result.planes →
         IsBlockCode (coefs_of (C.cells block.now)) s result.passes.items bytes.new }
@@ -26,12 +30,20 @@ pub fn code<C: Coefs>(block: &C, orient: Orient, bytes: &mut [u8]) -> BlockCode
     let planes = block.planes();
     let mut passes = ArrayVec::new();
     if planes == 0 {
-        return BlockCode { planes, passes };
+        return BlockCode {
+            planes,
+            start: 0,
+            passes,
+        };
     }
     let mut coder = BlockCoder::load(block, orient, planes);
+    let start = coder.distortion();
     for _k in 0..3 * u32::from(planes) - 2 {
-        let mark = coder.code_pass(bytes);
-        passes.push(CodedPass { mark });
+        passes.push(coder.code_pass(bytes));
     }
-    BlockCode { planes, passes }
+    BlockCode {
+        planes,
+        start,
+        passes,
+    }
 }

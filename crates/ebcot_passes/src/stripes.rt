@@ -5,6 +5,7 @@ ghost use Rattle.mq_coder.specs.Encoder.{count_of};
 ghost use Rattle.ebcot_contexts.specs.Cells.{Cell};
 ghost use Rattle.ebcot_contexts.specs.Contexts.{Shape};
 ghost use Rattle.ebcot_contexts.specs.Passes.{significance, refinement, cleanup, scan, columns};
+ghost use Rattle.ebcot_passes.specs.PassCoder.{coder_of};
 ghost use Rattle.ebcot_passes.specs.Coding.{AreCoefs, AreContexts, HoldsAfter, GoesOn};
 ghost use Rattle.ebcot_passes.specs.Runs.{IsSettled};
 
@@ -17,6 +18,7 @@ use mq_coder::Encoder;
 #[inline(always)]
 pub fn significance_stripe(
     encoder: &mut Encoder<'_>,
+    distortion: &mut u64,
     words: &mut [u32; 340],
     grid: &[u32; 1024],
     contexts: &[u8; 512],
@@ -27,22 +29,23 @@ pub fn significance_stripe(
     requires width { width ≤ 32 }
     requires stripe { stripe < 8 }
     requires contexts { (k : ℕ) → k < 512 → get_or contexts.now k 0 < 19 }
-    requires plane { p < 31 }
+    requires plane { p < 20 }
     requires room { count_of encoder.old + 768 ≤ length encoder.old.bytes.now }
     ensures codes { (s : Shape) (coefs l : List (ℕ × Bool)) (cells : List Cell) →
         s.width ≡ width → 4 * stripe < s.height → AreContexts s.orient contexts.now →
         AreCoefs s.width s.height coefs grid.now →
         HoldsAfter coefs s p (columns significance s p
         (take (stripe * width) (scan s.width s.height)) cells)
-        l words.old encoder.old →
+        l words.old (coder_of encoder.old distortion.old) →
         HoldsAfter coefs s p (columns significance s p
         (take ((stripe + 1) * width) (scan s.width s.height)) cells)
-        l words.new encoder.new }
+        l words.new (coder_of encoder.new distortion.new) }
     ensures goes_on { GoesOn encoder.old encoder.new 768 }
 {
     for x in 0..width {
         significance_column(
             encoder,
+            distortion,
             words,
             grid,
             contexts,
@@ -58,6 +61,7 @@ pub fn significance_stripe(
 #[inline(always)]
 pub fn refinement_stripe(
     encoder: &mut Encoder<'_>,
+    distortion: &mut u64,
     words: &mut [u32; 340],
     grid: &[u32; 1024],
     width: usize,
@@ -66,21 +70,22 @@ pub fn refinement_stripe(
 )
     requires width { width ≤ 32 }
     requires stripe { stripe < 8 }
-    requires plane { p < 31 }
+    requires plane { p < 20 }
     requires room { count_of encoder.old + 384 ≤ length encoder.old.bytes.now }
     ensures codes { (s : Shape) (coefs l : List (ℕ × Bool)) (cells : List Cell) →
         s.width ≡ width → 4 * stripe < s.height → AreCoefs s.width s.height coefs grid.now →
         HoldsAfter coefs s p (columns refinement s p
         (take (stripe * width) (scan s.width s.height)) cells)
-        l words.old encoder.old →
+        l words.old (coder_of encoder.old distortion.old) →
         HoldsAfter coefs s p (columns refinement s p
         (take ((stripe + 1) * width) (scan s.width s.height)) cells)
-        l words.new encoder.new }
+        l words.new (coder_of encoder.new distortion.new) }
     ensures goes_on { GoesOn encoder.old encoder.new 384 }
 {
     for x in 0..width {
         refinement_column(
             encoder,
+            distortion,
             words,
             grid,
             34 * stripe + 35 + x,
@@ -95,6 +100,7 @@ pub fn refinement_stripe(
 #[inline(always)]
 pub fn cleanup_stripe(
     encoder: &mut Encoder<'_>,
+    distortion: &mut u64,
     words: &mut [u32; 340],
     grid: &[u32; 1024],
     contexts: &[u8; 512],
@@ -105,7 +111,7 @@ pub fn cleanup_stripe(
     requires width { width ≤ 32 }
     requires stripe { stripe < 8 }
     requires contexts { (k : ℕ) → k < 512 → get_or contexts.now k 0 < 19 }
-    requires plane { p < 31 }
+    requires plane { p < 20 }
     requires room { count_of encoder.old + 1152 ≤ length encoder.old.bytes.now }
     ensures codes { (s : Shape) (coefs l : List (ℕ × Bool)) (cells : List Cell) →
         s.width ≡ width → 4 * stripe < s.height → AreContexts s.orient contexts.now →
@@ -113,15 +119,16 @@ pub fn cleanup_stripe(
         IsSettled p cells →
         HoldsAfter coefs s p (columns cleanup s p
         (take (stripe * width) (scan s.width s.height)) cells)
-        l words.old encoder.old →
+        l words.old (coder_of encoder.old distortion.old) →
         HoldsAfter coefs s p (columns cleanup s p
         (take ((stripe + 1) * width) (scan s.width s.height)) cells)
-        l words.new encoder.new }
+        l words.new (coder_of encoder.new distortion.new) }
     ensures goes_on { GoesOn encoder.old encoder.new 1152 }
 {
     for x in 0..width {
         cleanup_column(
             encoder,
+            distortion,
             words,
             grid,
             contexts,

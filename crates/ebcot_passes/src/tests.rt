@@ -26,7 +26,7 @@ fn code_passes(block: &mut BlockCoder, bytes: &mut [u8; 16384], passes: u32) -> 
     let mut mark = Mark::default();
     for _ in 0..passes {
         if block.has_more() && block.has_room(bytes) {
-            mark = block.code_pass(bytes);
+            mark = block.code_pass(bytes).mark;
         }
     }
     mark
@@ -60,7 +60,7 @@ fn codes_single_places(rt: HostRuntime) {
     ];
     for (height, planes, column, passes, code) in rows {
         let mut bytes = [0; 16384];
-        let mut block = BlockCoder::begin(Orient::LL, 1, height, planes, &grid_of(&column));
+        let mut block = BlockCoder::begin(Orient::LL, 1, height, planes, &grid_of(&column), 0);
         let mark = code_passes(&mut block, &mut bytes, passes);
         assert_eq!(rt; code_at(&mark, &bytes).as_slice(), code);
     }
@@ -70,7 +70,7 @@ fn codes_single_places(rt: HostRuntime) {
 fn goes_on_after_each_pass(rt: HostRuntime) {
     let grid = grid_of(&[64, 0, 0, 0]);
     let mut bytes = [0; 16384];
-    let mut block = BlockCoder::begin(Orient::HH, 1, 1, 7, &grid);
+    let mut block = BlockCoder::begin(Orient::HH, 1, 1, 7, &grid, 16641);
     let early = code_passes(&mut block, &mut bytes, 5);
     let late = code_passes(&mut block, &mut bytes, 14);
     assert_eq!(rt; code_at(&early, &bytes).as_slice(), [0x03].as_slice());
@@ -88,6 +88,16 @@ fn code_after(coded: &BlockCode, passes: usize, bytes: &[u8]) -> ArrayVec<u8, 8>
     ArrayVec::new()
 }
 
+/// The distortion after so many of its passes, and that before the first where it has fewer.
+fn left_after(coded: &BlockCode, passes: usize) -> u64 {
+    for (k, pass) in coded.passes.as_slice().iter().enumerate() {
+        if k + 1 == passes {
+            return pass.distortion;
+        }
+    }
+    coded.start
+}
+
 #[test]
 fn codes_all_passes(rt: HostRuntime) -> Result<(), Fail> {
     let mut plane = CoefPlane::new(rt.alloc(), 1, 1)?;
@@ -101,12 +111,93 @@ fn codes_all_passes(rt: HostRuntime) -> Result<(), Fail> {
     let block = BlockView::of(&plane, whole);
     let mut bytes = [0; 77312];
     let coded = code(&block, Orient::HH, &mut bytes);
-    assert_eq!(rt; (coded.planes, coded.passes.len()), (7, 19));
+    assert_eq!(rt;
+        (coded.planes, coded.passes.len(), coded.start),
+        (7, 19, 16641)
+    );
     for (passes, code) in [(1, 0x03), (5, 0x03), (6, 0x04), (19, 0x04)] {
         assert_eq!(rt;
             code_after(&coded, passes, &bytes).as_slice(),
             [code].as_slice()
         );
+    }
+    for (passes, left) in [
+        (1, 3969),
+        (3, 961),
+        (6, 225),
+        (9, 49),
+        (12, 9),
+        (15, 1),
+        (18, 0),
+        (19, 0),
+    ] {
+        assert_eq!(rt; left_after(&coded, passes), left);
+    }
+    Ok(())
+}
+
+#[test]
+fn codes_columns_of_three_rows(rt: HostRuntime) -> Result<(), Fail> {
+    let mut plane = CoefPlane::new(rt.alloc(), 3, 3)?;
+    plane.cells[0] = Coef::new(5, false);
+    plane.cells[2] = Coef::new(3, true);
+    plane.cells[4] = Coef::new(2, true);
+    plane.cells[6] = Coef::new(1, false);
+    plane.cells[8] = Coef::new(7, false);
+    let whole = Rect {
+        x: 0,
+        y: 0,
+        width: 3,
+        height: 3,
+    };
+    let block = BlockView::of(&plane, whole);
+    let mut bytes = [0; 77312];
+    let coded = code(&block, Orient::HL, &mut bytes);
+    assert_eq!(rt;
+        (coded.planes, coded.passes.len(), coded.start),
+        (3, 7, 429)
+    );
+    let rows = [
+        (1, [0x03, 0xD7].as_slice(), 93),
+        (2, [0x03, 0xD7, 0xB4, 0x7F].as_slice(), 21),
+        (3, [0x03, 0xD7, 0xB4, 0x3F].as_slice(), 13),
+        (4, [0x03, 0xD7, 0xB4, 0x3F].as_slice(), 13),
+        (5, [0x03, 0xD7, 0xB4, 0x39].as_slice(), 4),
+        (6, [0x03, 0xD7, 0xB4, 0x3A, 0xAF].as_slice(), 0),
+        (7, [0x03, 0xD7, 0xB4, 0x3A, 0xAF].as_slice(), 0),
+    ];
+    for (passes, code, left) in rows {
+        assert_eq!(rt; code_after(&coded, passes, &bytes).as_slice(), code);
+        assert_eq!(rt; left_after(&coded, passes), left);
+    }
+    Ok(())
+}
+
+#[test]
+fn codes_two_stripes_with_run_mode(rt: HostRuntime) -> Result<(), Fail> {
+    let mut plane = CoefPlane::new(rt.alloc(), 2, 5)?;
+    plane.cells[1] = Coef::new(3, true);
+    plane.cells[7] = Coef::new(2, false);
+    plane.cells[8] = Coef::new(1, true);
+    let whole = Rect {
+        x: 0,
+        y: 0,
+        width: 2,
+        height: 5,
+    };
+    let block = BlockView::of(&plane, whole);
+    let mut bytes = [0; 77312];
+    let coded = code(&block, Orient::LH, &mut bytes);
+    assert_eq!(rt; (coded.planes, coded.passes.len(), coded.start), (2, 4, 83));
+    let rows = [
+        (1, [0x17, 0x33, 0x3F].as_slice(), 11),
+        (2, [0x17, 0x33, 0x5A, 0x7F].as_slice(), 2),
+        (3, [0x17, 0x33, 0x5A, 0x1F].as_slice(), 0),
+        (4, [0x17, 0x33, 0x5A, 0x1F].as_slice(), 0),
+    ];
+    for (passes, code, left) in rows {
+        assert_eq!(rt; code_after(&coded, passes, &bytes).as_slice(), code);
+        assert_eq!(rt; left_after(&coded, passes), left);
     }
     Ok(())
 }
@@ -123,6 +214,6 @@ fn codes_no_pass_of_zeros(rt: HostRuntime) -> Result<(), Fail> {
     let block = BlockView::of(&plane, whole);
     let mut bytes = [0; 77312];
     let coded = code(&block, Orient::HL, &mut bytes);
-    assert_eq!(rt; (coded.planes, coded.passes.len()), (0, 0));
+    assert_eq!(rt; (coded.planes, coded.passes.len(), coded.start), (0, 0, 0));
     Ok(())
 }

@@ -1,3 +1,4 @@
+use Rattle.ebcot_passes.specs.PassCoder.{coder_of}
 use Rattle.std.proofs.Common.{ℕ, ◌*◌, List, get_or, set, subst, refl, arith}
 use Rattle.std.proofs.lemmas.List.{set-get_or}
 use Rattle.ebcot_contexts.specs.Passes.{cleanup, each}
@@ -19,16 +20,18 @@ returns-then-words-n-eq1226833920-clause-codes g =
     let words : List ℕ = g.args.words.now in
     let word : ℕ = get_or words n 0 in
     let all = all_touched word g.if-words-n-eq1226833920.true in
-    let held = own_held s p n cells l words _ h in
+    let held = own_held coefs s p n cells l words _ h in
     let own = own_word s.width p col.a at stripe 0 n g.args.j cells words word col.first held.flags
     in
     let open_place = touched_uncoded s p col.a at stripe 0 cells word
     (omega arith) col.first.place col.first.some own all.0 in
     plain_column coefs s p is col.a col.b col.c col.d
-    (s.width * s.height) cells l words g.args.encoder.now col.places
+    (s.width * s.height) cells l words (coder_of g.args.encoder.now g.args.distortion.now)
+    col.places
     (touched_calm s p col.a col.b col.c col.d cells open_place)
     (subst (λ (ws : List ℕ). HoldsAfter coefs s p
-    (each cleanup s p is cells) l ws g.args.encoder.now) (set-get_or words n 0)
+    (each cleanup s p is cells) l ws (coder_of g.args.encoder.now g.args.distortion.now))
+    (set-get_or words n 0)
     (none_coded coefs s p cleanup is col.a col.b col.c col.d cells l (set words n word) _ col.places
     (λ cs k hk. touched_uncoded s p col.a at stripe 0 cs word
     (omega arith) col.first.place col.first.some

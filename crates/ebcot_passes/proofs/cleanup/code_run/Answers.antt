@@ -1,13 +1,17 @@
+use Rattle.std.proofs.Common.{refl}
+use Rattle.ebcot_passes.specs.PassCoder.{coder_of}
+use Rattle.ebcot_passes.proofs.Cleanups.{row_one}
+use Rattle.ebcot_passes.proofs.Places.{next_place}
 use Rattle.std.proofs.Common.{ℕ, ◌%◌, ◌<◌, ◌≤◌, ◌≡◌, Bool, true, false, ◌==◌, nat_lt}
 use Rattle.std.proofs.Common.{nat_le, List, [], ◌∷◌, ◌++◌, set, take, subst, arith}
 use Rattle.std.proofs.lemmas.Bool.{lt-ltb, le-ltb}
 use Rattle.mq_coder.specs.Encoder.{Stands}
-use Rattle.ebcot_contexts.specs.Cells.{Cell, coef_at}
+use Rattle.ebcot_contexts.specs.Cells.{Cell}
 use Rattle.ebcot_contexts.specs.Passes.{zeros}
 use Rattle.ebcot_passes.specs.Coding.{Holds}
 use Rattle.ebcot_passes.specs.Runs.{row_place}
 use Rattle.ebcot_passes.proofs.Encoding.{then_on, put_on}
-use Rattle.ebcot_passes.proofs.Places.{put_holds, word_sign}
+use Rattle.ebcot_passes.proofs.Places.{put_holds}
 use Rattle.ebcot_passes.proofs.RunLemmas.{head_zeros, head_holds}
 use Rattle.ebcot_passes.proofs.Cleanups.{own_answers, no_answers, picked, row_word, three_more}
 use Rattle.ebcot_passes.proofs.cleanup.code_run.Goals as goal
@@ -31,14 +35,18 @@ returns-then-row-ge4-clause-codes g = λ s column stripe xa xb xc xd coefs l cel
     let bit : nat_lt row 4 ≡ false = le-ltb row 4 many in
     let stands = subst (λ (b : Bool). Stands g.put.new.self (l ++ (17, b) ∷ [])) bit
     (g.put.ensures.stands l h.stands) in
-    let held = g.touched-before.ensures s p column stripe n g.args.j xa xb xc xd cells
-    (l ++ (17, false) ∷ []) g.args.words.now g.put.new.self rows new
-    (put_holds s p cells l (l ++ (17, false) ∷ []) _ _ g.put.new.self h stands) in
+    let held = g.touched-before.ensures s p column stripe n g.args.j xa xb xc xd coefs cells
+    (l ++ (17, false) ∷ []) g.args.words.now (coder_of g.put.new.self g.args.distortion.now) rows
+    new is
+    (put_holds coefs s p cells l (l ++ (17, false) ∷ []) _ _
+    (coder_of g.put.new.self g.args.distortion.now)
+    refl h stands) in
     let four : row ≡ 4 = omega arith in
     head_zeros coefs s p xa xb xc xd cells l _ _ no_ones
-    (subst (λ (r : ℕ). Holds s p (zeros p (take r (xa ∷ xb ∷ xc ∷ xd ∷ [])) cells)
+    (subst (λ (r : ℕ). Holds coefs s p (zeros p (take r (xa ∷ xb ∷ xc ∷ xd ∷ [])) cells)
     (l ++ (17, false) ∷ [])
-    (set g.args.words.now n g.touched-before.result) g.put.new.self) four held)
+    (set g.args.words.now n g.touched-before.result)
+    (coder_of g.put.new.self g.args.distortion.now)) four held)
 
 pub returns-clause-codes : goal.returns-clause-codes
 returns-clause-codes g = λ s column stripe xa xb xc xd coefs l cells rows new a h.
@@ -62,9 +70,10 @@ returns-clause-codes g = λ s column stripe xa xb xc xd coefs l cells rows new a
     let s3 = subst (λ (k : List (ℕ × Bool)). Stands g.put-3.new.self k)
     (three_more l (17, true) (18, nat_le 2 row) (18, row % 2 == 1))
     (g.put-3.ensures.stands _ s2) in
-    let held = g.touched-before.ensures s p column stripe n g.args.j xa xb xc xd cells
-    (l ++ q) g.args.words.now g.put-3.new.self rows new
-    (put_holds s p cells l (l ++ q) _ _ g.put-3.new.self h s3) in
+    let held = g.touched-before.ensures s p column stripe n g.args.j xa xb xc xd coefs cells
+    (l ++ q) g.args.words.now (coder_of g.put-3.new.self g.args.distortion.now) rows new is
+    (put_holds coefs s p cells l (l ++ q) _ _ (coder_of g.put-3.new.self g.args.distortion.now)
+    refl h s3) in
     let known : List Cell = zeros p (take row (xa ∷ xb ∷ xc ∷ xd ∷ [])) cells in
     let i : ℕ = row_place row xa xb xc xd in
     let pick = picked s.width p column stripe row n g.args.j xa xb xc xd cells rows new low in
@@ -74,8 +83,10 @@ returns-clause-codes g = λ s column stripe xa xb xc xd coefs l cells rows new a
     pick.at a (omega arith) (omega arith) in
     head_holds coefs s p xa xb xc xd cells l _ _ row _ _ _ _
     (own_answers coefs p xa xb xc xd) is low
-    (g.code_sign.ensures.codes s p i column stripe g.args.j coefs (l ++ q) known pick.at inside
-    (word_sign _ (coef_at coefs i) word (a.below i)) pick.none held)
+    (g.code_sign.ensures.codes s i column stripe g.args.j coefs (l ++ q) known pick.at
+    (next_place coefs s p i known (l ++ q) _ _ held inside pick.open_place) word (a.below i)
+    pick.none
+    (row_one coefs p xa xb xc xd row is low) held)
 
 pub returns-clause-goes_on : goal.returns-clause-goes_on
 returns-clause-goes_on g =

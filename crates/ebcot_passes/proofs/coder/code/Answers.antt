@@ -1,3 +1,5 @@
+use Rattle.dz_quantiser.specs.Coefficient.{Coefficient}
+use Rattle.ebcot_passes.proofs.Loading.{block_fits, none_left}
 use Rattle.std.proofs.Common.{ℕ, suc, ◌+◌, ◌≤◌, ◌≡◌, Bool, List, [], ◌∷◌, ◌++◌}
 use Rattle.std.proofs.Common.{get_or, refl, sym, ap, ◌∙◌, subst, arith}
 use Rattle.ebcot_contexts.specs.Contexts.{Shape}
@@ -31,9 +33,9 @@ loop-k-preserved g c =
     c.planes-planes.result c.args.orient in
     let coefs : List (ℕ × Bool) = coefs_of (g.C.Coefs.cells c.args.block.now) in
     let k : ℕ = c.loop-k._k in
-    let pass : CodedPass = record { mark = c.code_pass-mark.result } in
+    let pass : CodedPass = c.code_pass.result in
     let i = c.loop-k.invariant in
-    let e = c.code_pass-mark.ensures in
+    let e = c.code_pass.ensures in
     let items : c.push.new.self.items ≡ c.loop-k.passes.items ++ pass ∷ [] = c.push.ensures.items in
     let next : suc k ≡ k + 1 = omega arith in
     let same = ap (λ m. m.count) e.same in
@@ -43,20 +45,21 @@ loop-k-preserved g c =
       planes = e.planes ∙ i.planes;
       passes = e.next ∙ (let p = i.passes in omega arith);
       length = e.length ∙ i.length;
-      after = subst (λ (n : ℕ). IsAfter coefs s n c.code_pass-mark.new.self
-          c.code_pass-mark.new.bytes)
+      after = subst (λ (n : ℕ). IsAfter coefs s n c.code_pass.new.self
+          c.code_pass.new.bytes)
           next (e.codes coefs s k i.after);
       coded = subst (λ (n : ℕ). ArePasses coefs s n c.push.new.self.items
-          c.code_pass-mark.new.bytes)
+          c.code_pass.new.bytes)
           next
-          (subst (λ (ps : List CodedPass). ArePasses coefs s (suc k) ps c.code_pass-mark.new.bytes)
+          (subst (λ (ps : List CodedPass). ArePasses coefs s (suc k) ps c.code_pass.new.bytes)
           (sym items)
           (one_more coefs s k c.loop-k.coder.mark.count c.loop-k.passes.items pass c.loop-k.bytes
-          c.code_pass-mark.new.bytes i.coded i.last grown e.marks (e.mark coefs s k i.after) few));
+          c.code_pass.new.bytes i.coded i.last grown e.marks (e.mark coefs s k i.after)
+          (e.distortion coefs s k i.after) few));
       last = λ j other within.
           subst (λ (ps : List CodedPass). (get_or ps j other).mark.count
-          ≤ c.code_pass-mark.new.self.mark.count) (sym items)
-          (last_most k c.loop-k.coder.mark.count c.code_pass-mark.new.self.mark.count
+          ≤ c.code_pass.new.self.mark.count) (sym items)
+          (last_most k c.loop-k.coder.mark.count c.code_pass.new.self.mark.count
           c.loop-k.passes.items pass i.coded.count i.last (omega arith) (omega arith) j other
           (omega arith));
       few = omega arith;
@@ -75,3 +78,16 @@ returns-clause-codes g c = λ s orient wide high planes.
     subst (λ (k : ℕ). ArePasses coefs s k c.loop-k.passes.items c.loop-k.bytes) all
     (subst (λ (t : Shape). ArePasses coefs t c.loop-k._k c.loop-k.passes.items c.loop-k.bytes)
     (sym (shape_is s w h n c.args.orient orient wide high planes)) c.loop-k.invariant.coded)
+
+pub returns-clause-start : goal.returns-clause-start
+returns-clause-start g c = λ s orient wide high planes.
+    let after = c.load-coder.ensures.loads s c.args.bytes.now orient wide high planes in
+    c.distortion-start.ensures ∙ after.distortion_is
+
+pub returns-then-planes-eq0-clause-start : goal.returns-then-planes-eq0-clause-start
+returns-then-planes-eq0-clause-start g c = λ s orient wide high planes.
+    let cells : List Coefficient = g.C.Coefs.cells c.args.block.now in
+    none_left (coefs_of cells) s
+    (block_fits cells s (g.C.Coefs.rows c.args.block.now) (g.C.Coefs.columns c.args.block.now)
+    (planes ∙ c.planes-planes.ensures) (g.met.C.Coefs.whole c.args.block.now) wide high)
+    (planes ∙ c.if-planes-eq0.true)

@@ -1,3 +1,4 @@
+use Rattle.ebcot_passes.specs.PassCoder.{coder_of}
 use Rattle.std.proofs.Common.{ℕ, List, get_or, set, subst, arith}
 use Rattle.std.proofs.lemmas.List.{set-get_or}
 use Rattle.ebcot_contexts.specs.Passes.{significance, each}
@@ -15,9 +16,10 @@ returns-then-word-eq0-clause-codes c = λ s at stripe is coefs l cells col conte
     let words : List ℕ = c.args.words.now in
     let word : ℕ = get_or words n 0 in
     let none = quiet_word word c.if-word-eq0.true in
-    let held = own_held s p n cells l words _ h in
+    let held = own_held coefs s p n cells l words _ h in
     subst (λ (ws : List ℕ). HoldsAfter coefs s p
-    (each significance s p is cells) l ws c.args.encoder.now) (set-get_or words n 0)
+    (each significance s p is cells) l ws (coder_of c.args.encoder.now c.args.distortion.now))
+    (set-get_or words n 0)
     (none_coded coefs s p significance is col.a col.b col.c col.d cells l
     (set words n word) _ col.places
     (λ cs k hk. quiet_uncoded s p col.a at stripe 0 cs word
@@ -41,9 +43,10 @@ returns-then-word-eq9360-clause-codes c = λ s at stripe is coefs l cells col co
     let words : List ℕ = c.args.words.now in
     let word : ℕ = get_or words n 0 in
     let none = all_significant word c.if-word-eq9360.true in
-    let held = own_held s p n cells l words _ h in
+    let held = own_held coefs s p n cells l words _ h in
     subst (λ (ws : List ℕ). HoldsAfter coefs s p
-    (each significance s p is cells) l ws c.args.encoder.now) (set-get_or words n 0)
+    (each significance s p is cells) l ws (coder_of c.args.encoder.now c.args.distortion.now))
+    (set-get_or words n 0)
     (none_coded coefs s p significance is col.a col.b col.c col.d cells l
     (set words n word) _ col.places
     (λ cs k hk. significant_uncoded s p col.a at stripe 0 cs word
@@ -63,7 +66,7 @@ returns-then-word-eq9360-clause-codes c = λ s at stripe is coefs l cells col co
 pub returns-clause-codes : goal.returns-clause-codes
 returns-clause-codes c = λ s at stripe is coefs l cells col contexts a h.
     let p : ℕ = c.args.p in
-    let h0 = own_held s p c.args.n cells l c.args.words.now _ h in
+    let h0 = own_held coefs s p c.args.n cells l c.args.words.now _ h in
     let h1 = c.significance_row-first.ensures.codes s col.a at stripe coefs _ _ col.first contexts a
     h0 in
     let h2 = c.significance_row-second.ensures.codes s col.b at stripe coefs _ _ col.second contexts

@@ -1,3 +1,4 @@
+use Rattle.ebcot_passes.specs.PassCoder.{coder_of}
 use Rattle.std.proofs.Common.{ℕ, ◌*◌, ◌≡◌, Bool, List, take}
 use Rattle.ebcot_contexts.specs.Cells.{Cell}
 use Rattle.ebcot_contexts.specs.Contexts.{Shape}
@@ -10,8 +11,9 @@ invariant-loop-stripe l = record {
   codes : (s : Shape) (coefs k : List (ℕ × Bool)) (cells : List Cell) → s.width ≡ l.width →
       s.height ≡ l.height
       → AreCoefs s.width s.height coefs l.grid
-      → Holds s l.p cells k l.initial.words l.initial.encoder
+      → Holds coefs s l.p cells k l.initial.words (coder_of l.initial.encoder l.initial.distortion)
       → HoldsAfter coefs s l.p (columns refinement s l.p
-      (take (l.stripe * l.width) (scan s.width s.height)) cells) k l.words l.encoder;
+      (take (l.stripe * l.width) (scan s.width s.height)) cells) k l.words
+      (coder_of l.encoder l.distortion);
   goes_on : GoesOn l.initial.encoder l.encoder (384 * l.stripe);
 }

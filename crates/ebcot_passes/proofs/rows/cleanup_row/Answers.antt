@@ -1,3 +1,5 @@
+use Rattle.std.proofs.Common.{eqb-true}
+use Rattle.ebcot_passes.proofs.Places.{next_place}
 use Rattle.std.proofs.Common.{ℕ, ◌≡◌, ◌*◌, ◌<◌, true, false, sym, ◌∙◌, arith}
 use Rattle.ebcot_contexts.specs.Cells.{cell_at, is_significant}
 use Rattle.ebcot_contexts.specs.Passes.{cleanup, is_coded}
@@ -31,5 +33,6 @@ returns-clause-codes c = λ s i column stripe coefs l cells at contexts a settle
     visited cleanup s p i c.significance_context-cx.result coefs l cells _ _ coded
     (c.significance_context-cx.ensures.context s p i column stripe cells contexts at.place at.some
     own)
-    (c.code_place.ensures.codes s i column stripe c.args.j coefs l cells at inside coef
+    (c.code_place.ensures.codes s i column stripe c.args.j coefs l cells at
+    (next_place coefs s p i cells l _ _ h inside (eqb-true _ _ untouched)) coef
     (a.below i) none h)

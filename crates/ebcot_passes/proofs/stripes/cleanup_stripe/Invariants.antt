@@ -1,3 +1,4 @@
+use Rattle.ebcot_passes.specs.PassCoder.{coder_of}
 use Rattle.std.proofs.Common.{ℕ, ◌+◌, ◌*◌, ◌<◌, ◌≡◌, Bool, List, take}
 use Rattle.ebcot_contexts.specs.Cells.{Cell}
 use Rattle.ebcot_contexts.specs.Contexts.{Shape}
@@ -14,8 +15,10 @@ invariant-loop-x l = record {
       IsSettled l.p cells
       → HoldsAfter coefs s l.p (columns cleanup s l.p
       (take (l.stripe * l.width)
-      (scan s.width s.height)) cells) k l.initial.words l.initial.encoder
+      (scan s.width s.height)) cells) k l.initial.words
+      (coder_of l.initial.encoder l.initial.distortion)
       → HoldsAfter coefs s l.p (columns cleanup s l.p
-      (take (l.stripe * l.width + l.x) (scan s.width s.height)) cells) k l.words l.encoder;
+      (take (l.stripe * l.width + l.x) (scan s.width s.height)) cells) k l.words
+      (coder_of l.encoder l.distortion);
   goes_on : GoesOn l.initial.encoder l.encoder (36 * l.x);
 }

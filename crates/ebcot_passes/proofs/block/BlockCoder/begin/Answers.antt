@@ -21,7 +21,7 @@ invariant_of-result c =
     }
 
 pub returns-clause-begins : goal.returns-clause-begins
-returns-clause-begins c = λ coefs s buffer orient wide high planes grid.
+returns-clause-begins c = λ coefs s buffer orient wide high planes grid fits left.
     let some = c.requires.some_planes in
     let flags : AreFlags s.width (s.planes - 1) (start s) c.blank-flags.result =
     subst (λ (v : ℕ). AreFlags v (s.planes - 1) (start s) c.blank-flags.result) (sym wide)
@@ -36,6 +36,8 @@ returns-clause-begins c = λ coefs s buffer orient wide high planes grid.
           (subst (λ (v : ℕ). AreCoefs v c.args.height coefs c.args.grid.now) (sym wide) grid);
       blank = flags;
       passes_are = refl;
+      fits = fits;
+      distortion_is = left;
       flags = subst (λ (cells : List Cell). AreFlags s.width
           (s.planes - 1) cells c.blank-flags.result) (sym (known_none coefs s)) flags;
       left = subst (λ (l : List (ℕ × Bool)). IsLeft c.default.result c.new.result buffer l)

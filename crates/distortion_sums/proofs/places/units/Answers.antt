@@ -1,7 +1,7 @@
 use Rattle.std.proofs.Common.{◌*◌, ◌^◌, ◌<◌, ◌≤◌, arith}
 use Rattle.std.proofs.lemmas.Nat.{mul-le}
 use Rattle.std.proofs.Math.Nat.{pow-le-pow_right}
-use Rattle.distortion_sums.proofs.sums.units.Goals as goal
+use Rattle.distortion_sums.proofs.places.units.Goals as goal
 
 pub returns-clause-small : goal.returns-clause-small
 returns-clause-small c =

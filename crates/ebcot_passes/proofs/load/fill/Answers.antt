@@ -1,10 +1,10 @@
 use Rattle.std.proofs.Common.{ℕ, ◌≤◌, List, arith}
 use Rattle.dz_quantiser.specs.Coefficient.{Coefficient}
 use Rattle.ebcot_passes.proofs.Loading.{loaded_block}
-use Rattle.ebcot_passes.proofs.load.grid_of.Goals as goal
+use Rattle.ebcot_passes.proofs.load.fill.Goals as goal
 
-pub returns : goal.returns
-returns g c =
+pub returns-clause-grid : goal.returns-clause-grid
+returns-clause-grid g c =
     let w : ℕ = g.C.Coefs.columns c.args.block.now in
     let h : ℕ = g.C.Coefs.rows c.args.block.now in
     let cells : List Coefficient = g.C.Coefs.cells c.args.block.now in
