@@ -1,12 +1,15 @@
 pub mod Allocated
 pub mod Beginning
 pub mod Certificate
+pub mod Certified
 pub mod Entries
 pub mod EntryLaws
+pub mod Frame
 pub mod Going
 pub mod Held
 pub mod Listed
 pub mod ListedLaws
+pub mod Listing
 pub mod Members
 pub mod Numbered
 pub mod Offers

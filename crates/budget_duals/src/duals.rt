@@ -55,6 +55,7 @@ fn gap_of<O: Offers, H: Holdings>(
     ensures blocks { O.blocks offers.new ≡ O.blocks offers.old }
     ensures done { O.done offers.new ≡ O.done offers.old }
     ensures left { O.left offers.new ≡ O.left offers.old }
+    ensures keeps { O.stays offers.old offers.new }
 {
     let over = excess_sum(tree, offers, held, closed);
     let unused = unused_sum(tree, held, multipliers);
@@ -106,6 +107,7 @@ fn settle<O: Offers, H: Holdings>(
     ensures closed { length closed.new ≡ length closed.old }
     ensures multipliers { length multipliers.new ≡ length multipliers.old }
     ensures stays { H.stays held.old held.new }
+    ensures keeps { O.stays offers.old offers.new }
 {
     first_entries(heap, offers);
     walk(tree, offers, held, closed, heap);
@@ -119,7 +121,7 @@ fn settle<O: Offers, H: Holdings>(
 ///
 /// At first no step is taken. `tree` has at most 100 budgets with limits below 2^25 bytes, each within
 /// its limit at first. Only out of memory is refused; it comes before the first step is taken, and
-/// `held` is then as it was.
+/// `held` and `offers` are then as they were.
 pub fn allocate_over<O: Offers, H: Holdings>(
     alloc: Global,
     tree: &Tree,
@@ -140,8 +142,11 @@ pub fn allocate_over<O: Offers, H: Holdings>(
     ensures ok { IfOk result (λ d. IsAllocated (budgets_of tree.now (O.blocks offers.old) (H.node_of held.old) (H.held_by held.old))
         (O.left offers.old) (so_far (H.chosen held.new) (O.done offers.new) (O.left offers.new) d.closed.items)
         d.multipliers.items d.gap) }
+    ensures closed { IfOk result (λ d. length d.closed.items ≡ length tree.now.limits.now) }
     ensures stays { H.stays held.old held.new }
+    ensures keeps { O.stays offers.old offers.new }
     ensures memory { OnErr result (held.new ≡ held.old) }
+    ensures untouched { OnErr result (offers.new ≡ offers.old) }
 {
     let budgets = tree.limits.len();
     let mut closed = all_open(alloc, budgets)?;

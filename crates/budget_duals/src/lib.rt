@@ -12,6 +12,7 @@ mod begin;
 mod certificate;
 mod duals;
 mod entry;
+mod frame;
 mod held;
 mod holdings;
 mod levels;
@@ -24,6 +25,7 @@ mod offers;
 mod price;
 mod price_holdings;
 mod queue;
+mod refused;
 mod sums;
 #[cfg(test)]
 mod tests;
@@ -32,6 +34,7 @@ mod walking;
 
 pub use certificate::{AllocateRefusal, Certificate, RefusedStep};
 pub use duals::{Duals, allocate_over};
+pub use frame::{allocate, allocate_offers};
 pub use held::Held;
 pub use holdings::Holdings;
 pub use limits::Limits;

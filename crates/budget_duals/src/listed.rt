@@ -3,7 +3,7 @@ ghost use Rattle.std.specs.Prelude.{ℕ, ◌≡◌, ◌==◌, ◌<◌, ◌≤◌
 ghost use Rattle.std.specs.List.{AllByRecursion};
 ghost use Rattle.std.proofs.Props.{props};
 ghost use Rattle.rd_hulls.specs.declared.step.Step.{Step};
-ghost use Rattle.allocation_bound.specs.Steps.{Agrees, excess, scale};
+ghost use Rattle.allocation_bound.specs.Steps.{Agrees, excess, gains, scale};
 ghost use Rattle.budget_duals.specs.Listed.{AreRows, list_at, done_at, left_at, offer_of, offer_at, steps_of};
 
 use crate::{Offer, Offers};
@@ -20,6 +20,18 @@ fn excess_over(steps: &[Step], multiplier: u128) -> u128
     let mut sum: u128 = 0;
     for step in steps {
         sum += (0x1_0000_0000 * step.gain).saturating_sub(multiplier * step.len as u128);
+    }
+    sum
+}
+
+// The sum of the gains of steps.
+fn gains_of(steps: &[Step]) -> u128
+    requires small { gains steps.now < 2 ^ 90 }
+    ensures { result ≡ gains steps.now }
+{
+    let mut sum: u128 = 0;
+    for step in steps {
+        sum += step.gain;
     }
     sum
 }
@@ -77,7 +89,8 @@ impl ListedOffers {
 }
 
 impl Offers for ListedOffers {
-    ghost use Rattle.std.specs.Prelude.{length, map};
+    ghost use Rattle.std.specs.Prelude.{length, map, ◌≡◌, refl};
+    ghost use Rattle.std.proofs.Common.{◌∙◌};
     ghost use Rattle.budget_duals.specs.Listed.{done_at, left_at, offer_at};
     ghost use Rattle.budget_duals.specs.ListedLaws.{true_at, own_at};
 
@@ -90,6 +103,12 @@ impl Offers for ListedOffers {
     ghost unknown = { λ o b. 0 };
 
     ghost offered = { λ o b. offer_at (map (λ v. v.items) o.rows.items) o.places.items b };
+
+    ghost stays = { λ o p. p.rows.items ≡ o.rows.items };
+
+    ghost stays_itself = { λ o. refl };
+
+    ghost stays_on = { λ o p q e f. f ∙ e };
 
     ghost true_offers = { λ o b below. true_at (map (λ v. v.items) o.rows.items) o.places.items b };
 
@@ -111,6 +130,10 @@ impl Offers for ListedOffers {
 
     fn take(&mut self, step: &Step) {
         self.places[step.block as usize] += 1;
+    }
+
+    fn gained(&self, block: u32) -> u128 {
+        gains_of(&self.rows[block as usize][..self.places[block as usize]])
     }
 
     fn excess(&mut self, block: u32, multiplier: u128) -> u128 {

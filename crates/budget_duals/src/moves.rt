@@ -49,6 +49,7 @@ pub(crate) fn take_or_close<O: Offers, H: Holdings>(
     ensures node { H.node_of held.new ≡ H.node_of held.old }
     ensures held { H.held_by held.new ≡ H.held_by held.old }
     ensures stays { H.stays held.old held.new }
+    ensures keeps { O.stays offers.old offers.new }
 {
     match held.breaks(tree, step) {
         None => {
@@ -100,6 +101,7 @@ pub(crate) fn visit<O: Offers, H: Holdings>(
     ensures node { H.node_of held.new ≡ H.node_of held.old }
     ensures held { H.held_by held.new ≡ H.held_by held.old }
     ensures stays { H.stays held.old held.new }
+    ensures keeps { O.stays offers.old offers.new }
 {
     match entry.offer {
         Offer::Nothing => {}

@@ -1,7 +1,7 @@
 // Blocks that offer their steps one after the other.
 ghost use Rattle.std.specs.Prelude.{ℕ, ◌≡◌, ◌≢◌, ◌<◌, ◌≤◌, ◌++◌, ◌∷◌, ◌^◌, [], List, Some};
 ghost use Rattle.rd_hulls.specs.declared.step.Step.{Step};
-ghost use Rattle.allocation_bound.specs.Steps.{Agrees, excess};
+ghost use Rattle.allocation_bound.specs.Steps.{Agrees, excess, gains};
 ghost use Rattle.budget_duals.specs.declared.offer.Offer.{Offer};
 ghost use Rattle.budget_duals.specs.Offers.{IsOffer, IsAtMost, HasBlock};
 
@@ -29,6 +29,9 @@ pub trait Offers {
     /// What a block offers.
     ghost offered: { Self → ℕ → Offer };
 
+    /// Two values keep the same beside what was taken and learned of blocks.
+    ghost stays: { Self → Self → Type 0 };
+
     /// How many blocks there are.
     fn count(&self) -> u32
         ensures { result ≡ blocks self.now };
@@ -48,7 +51,8 @@ pub trait Offers {
         ensures learns { IsAtMost (offered self.old block) →
             unknown self.new block < unknown self.old block }
         ensures keeps { (k : ℕ) → k < blocks self.old → unknown self.new k ≤ unknown self.old k }
-        ensures others { (k : ℕ) → k ≢ block → offered self.new k ≡ offered self.old k };
+        ensures others { (k : ℕ) → k ≢ block → offered self.new k ≡ offered self.old k }
+        ensures stays { stays self.old self.new };
 
     /// Takes the step that its block offers.
     fn take(&mut self, step: &Step)
@@ -60,7 +64,15 @@ pub trait Offers {
         ensures other_left { (k : ℕ) → k ≢ step.now.block → left self.new k ≡ left self.old k }
         ensures other_done { (k : ℕ) → k ≢ step.now.block → done self.new k ≡ done self.old k }
         ensures keeps { (k : ℕ) → k < blocks self.old → unknown self.new k ≤ unknown self.old k }
-        ensures others { (k : ℕ) → k ≢ step.now.block → offered self.new k ≡ offered self.old k };
+        ensures others { (k : ℕ) → k ≢ step.now.block → offered self.new k ≡ offered self.old k }
+        ensures stays { stays self.old self.new };
+
+    /// The sum of the gains of a block's steps that were taken, where it is below 2^90: by how much
+    /// its distortion is less than with no passes.
+    fn gained(&self, block: u32) -> u128
+        requires block { block < blocks self.now }
+        requires small { gains (done self.now block) < 2 ^ 90 }
+        ensures { result ≡ gains (done self.now block) };
 
     /// By how much the steps that are left are above a multiplier (over 2^32) that lies between them
     /// and those that were taken: the sum of what 2^32 times each one's gain has above its bytes times
@@ -72,11 +84,17 @@ pub trait Offers {
         ensures excess { result ≡ excess multiplier (left self.old block) }
         ensures blocks { blocks self.new ≡ blocks self.old }
         ensures done { done self.new ≡ done self.old }
-        ensures left { left self.new ≡ left self.old };
+        ensures left { left self.new ≡ left self.old }
+        ensures stays { stays self.old self.new };
 
     /// An offer is true of the steps that are left.
     ghost true_offers: { (s : Self) (b : ℕ) → b < blocks s → IsOffer (left s b) (offered s b) };
 
     /// The steps of a block are its own.
     ghost own_steps: { (s : Self) (b : ℕ) → b < blocks s → HasBlock b (done s b ++ left s b) };
+
+    /// A value keeps the same as itself, and as each that keeps the same as one that does.
+    ghost stays_itself: { (s : Self) → stays s s };
+
+    ghost stays_on: { (s t u : Self) → stays s t → stays t u → stays s u };
 }

@@ -26,6 +26,10 @@ pub trait Price {
     /// Two values keep the same beside their counts and what follows from these.
     ghost keeps: { Self → Self → Type 0 };
 
+    /// How many blocks there are.
+    fn count(&self) -> u32
+        ensures { result ≡ length (highest self.now) };
+
     /// What the budgets hold at the present counts.
     fn held(&self) -> Held
         ensures { result ≡ held_for self.now (counts self.now) };

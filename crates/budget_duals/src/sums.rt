@@ -31,6 +31,7 @@ pub(crate) fn excess_sum<O: Offers, H: Holdings>(
     ensures blocks { O.blocks offers.new ≡ O.blocks offers.old }
     ensures done { O.done offers.new ≡ O.done offers.old }
     ensures left { O.left offers.new ≡ O.left offers.old }
+    ensures keeps { O.stays offers.old offers.new }
 {
     let mut sum: u128 = 0;
     for block in 0..offers.count() {

@@ -40,6 +40,7 @@ pub(crate) fn walk<O: Offers, H: Holdings>(
     ensures node { H.node_of held.new ≡ H.node_of held.old }
     ensures held { H.held_by held.new ≡ H.held_by held.old }
     ensures stays { H.stays held.old held.new }
+    ensures keeps { O.stays offers.old offers.new }
 {
     while let Some(entry) = heap.pop() {
         if tree.is_open(held.node(entry.block), closed) {

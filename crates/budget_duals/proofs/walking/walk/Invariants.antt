@@ -14,6 +14,7 @@ invariant-loop-entry g l = record {
   node : g.H.Holdings.node_of l.held ≡ g.H.Holdings.node_of l.fn.held;
   held : g.H.Holdings.held_by l.held ≡ g.H.Holdings.held_by l.fn.held;
   stays : g.H.Holdings.stays l.fn.held l.held;
+  keeps : g.O.Offers.stays l.fn.offers l.offers;
   few : heap_len l.heap ≤ g.O.Offers.blocks l.fn.offers;
   room : g.O.Offers.blocks l.fn.offers ≤ heap_capacity l.heap;
   going : IsGoing (budgets_of l.tree (g.O.Offers.blocks l.fn.offers) (g.H.Holdings.node_of l.fn.held) (g.H.Holdings.held_by l.fn.held))
