@@ -81,7 +81,7 @@ allocated w steps o numbers g budgets are settled long same is =
           ∙ ap (λ x. rounded_up (upto w.blocks (λ b. excess (block_rate w o b) (o.left b)) + x)) unused);
     }
 
-lens_after : (done left : List Step) → lens left ≤ lens (done ++ left)
+pub lens_after : (done left : List Step) → lens left ≤ lens (done ++ left)
 lens_after [] left = omega arith
 lens_after (s ∷ done) left = let h : lens left ≤ lens (done ++ left) = lens_after done left in omega arith
 

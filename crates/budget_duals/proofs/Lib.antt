@@ -1,12 +1,17 @@
 pub mod BeginLemmas
+pub mod CertifiedLemmas
 pub mod DualLemmas
 pub mod FillLemmas
+pub mod FrameLemmas
+pub mod GainLemmas
 pub mod LevelLemmas
 pub mod ListedLemmas
 pub mod MoveLemmas
 pub mod Outermost
 pub mod Places
 pub mod QueueLemmas
+pub mod SplitLemmas
 pub mod SumLemmas
+pub mod TooSmall
 pub mod TreeLemmas
 pub mod WalkLemmas

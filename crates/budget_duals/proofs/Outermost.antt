@@ -6,7 +6,7 @@ use Rattle.budget_duals.specs.declared.held.Held.{Held}
 use Rattle.budget_duals.specs.declared.limits.Limits.{Limits}
 use Rattle.budget_duals.specs.Held.{Breaks, IsWithin, IsOutermostBroken, place_of}
 
-two_ways : (m n : ℕ) → (m ≤ n) ⊎ (n < m)
+pub two_ways : (m n : ℕ) → (m ≤ n) ⊎ (n < m)
 two_ways m n = grind arith
 
 none_outside : (l : Limits) (h : Held) (b : Budget)

@@ -18,15 +18,15 @@ use Rattle.budget_duals.specs.declared.members.Members.{Members}
 -- The limits, the choice of no passes, and the steps that each block has.
 pub record IsReady (limits : Limits) (highest counts : List ℕ) (inside : ℕ → Members) (held : List ℕ → Held)
     (steps : ℕ → List Step) (start : ℕ) : Type 0 where
-  pub counts : (b : ℕ) → b < length highest → get_or counts b 0 ≡ 0
+  pub unpassed : (b : ℕ) → b < length highest → get_or counts b 0 ≡ 0
   -- The steps of a block follow on from no passes, fall strictly in slope, and lead to no count above the
   -- block's highest.
-  pub steps : CanWalk highest steps
+  pub can_walk : CanWalk highest steps
   -- their gains together are at most the distortion with no passes, and their bytes are below 2^32
-  pub gains : upto (length highest) (λ b. gains (steps b)) ≤ start
-  pub start : start < 2 ^ 90
+  pub gain : upto (length highest) (λ b. gains (steps b)) ≤ start
+  pub wide : start < 2 ^ 90
   pub bytes : upto (length highest) (λ b. lens (steps b)) < 2 ^ 32
-  pub limits : AreLow limits
+  pub low : AreLow limits
   -- In a 2K frame nothing is in the 2K portion; in a 4K frame a component stands in it.
   pub members : (b : ℕ) → b < length highest → AreMembers limits.inner (inside b)
   pub none : limits.inner ≡ None → (held counts).inner ≡ 0

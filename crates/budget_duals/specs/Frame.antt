@@ -7,7 +7,7 @@ use Rattle.cine_nums.specs.declared.budget.Budget.TheVariants.{Frame, Inner, C0,
 use Rattle.rd_hulls.specs.declared.step.Step.{Step}
 use Rattle.allocation_bound.specs.Refused.{grow, price}
 use Rattle.allocation_bound.specs.Settled.{Budgets, Outcome, multiplier_of}
-use Rattle.budget_duals.specs.Held.{limit_in, place_of}
+use Rattle.budget_duals.specs.Held.{held_in, limit_in, place_of, IsOutermostBroken}
 use Rattle.budget_duals.specs.Numbered.{node_in, bytes_in}
 use Rattle.budget_duals.specs.declared.certificate.RefusedStep.{RefusedStep}
 use Rattle.budget_duals.specs.declared.held.Held.{Held}
@@ -42,6 +42,10 @@ frame_budgets limits blocks inside held = record {
   limit = λ j. get_or (limit_each limits) j 0;
   held = λ counts j. bytes_in (held counts) j;
 }
+
+-- the outermost budget that holds more than its limit, and what it holds
+abbrev pub IsTooSmall : Limits → Held → Budget → ℕ → Type 0
+IsTooSmall limits held budget needed = IsOutermostBroken limits held budget × (needed ≡ held_in held budget)
 
 -- each limit is below 2^22 bytes
 abbrev pub AreLow : Limits → Type 0

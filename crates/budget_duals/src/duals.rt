@@ -106,6 +106,7 @@ fn settle<O: Offers, H: Holdings>(
         multipliers.new result }
     ensures closed { length closed.new ≡ length closed.old }
     ensures multipliers { length multipliers.new ≡ length multipliers.old }
+    ensures blocks { O.blocks offers.new ≡ O.blocks offers.old }
     ensures stays { H.stays held.old held.new }
     ensures keeps { O.stays offers.old offers.new }
 {
@@ -143,6 +144,7 @@ pub fn allocate_over<O: Offers, H: Holdings>(
         (O.left offers.old) (so_far (H.chosen held.new) (O.done offers.new) (O.left offers.new) d.closed.items)
         d.multipliers.items d.gap) }
     ensures closed { IfOk result (λ d. length d.closed.items ≡ length tree.now.limits.now) }
+    ensures blocks { O.blocks offers.new ≡ O.blocks offers.old }
     ensures stays { H.stays held.old held.new }
     ensures keeps { O.stays offers.old offers.new }
     ensures memory { OnErr result (held.new ≡ held.old) }

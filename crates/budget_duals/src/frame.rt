@@ -7,8 +7,8 @@ ghost use Rattle.rd_hulls.specs.declared.step.Step.{Step};
 ghost use Rattle.allocation_bound.specs.Steps.{gains};
 ghost use Rattle.allocation_bound.specs.Sums.{upto};
 ghost use Rattle.budget_duals.specs.Certified.{IsReady, IsCertificate};
-ghost use Rattle.budget_duals.specs.Frame.{around_each, frame_budgets, or_none};
-ghost use Rattle.budget_duals.specs.Held.{held_in, IsOutermostBroken, IsWithin};
+ghost use Rattle.budget_duals.specs.Frame.{around_each, frame_budgets, or_none, IsTooSmall};
+ghost use Rattle.budget_duals.specs.Held.{IsWithin};
 ghost use Rattle.budget_duals.specs.Listed.{steps_of};
 ghost use Rattle.budget_duals.specs.Listing.{refused_listed};
 ghost use Rattle.budget_duals.specs.Price.{CanTake};
@@ -148,8 +148,7 @@ pub fn allocate_offers<O: Offers, P: Price>(
     requires ready { IsReady limits.now (P.highest price.old) (P.counts price.old) (P.inside_of price.old) (P.held_for price.old) (O.left offers.old) start }
     ensures too_small { (budget : Budget) (needed : ℕ) →
         (result ≡ Err (AllocateRefusal.LimitTooSmall budget needed)) ↔
-        (IsOutermostBroken limits.now (P.held_for price.old (P.counts price.old)) budget
-        × (needed ≡ held_in (P.held_for price.old (P.counts price.old)) budget)) }
+        IsTooSmall limits.now (P.held_for price.old (P.counts price.old)) budget needed }
     ensures certified { IfOk result (λ c. IsCertificate
         (frame_budgets limits.now (O.blocks offers.old) (P.inside_of price.old) (P.held_for price.old))
         (O.left offers.old) (P.counts price.new) (O.done offers.new) (O.left offers.new) start c) }
@@ -182,8 +181,7 @@ pub fn allocate<P: Price>(
     requires ready { IsReady limits.now (P.highest price.old) (P.counts price.old) (P.inside_of price.old) (P.held_for price.old) (λ b. steps_of b steps.items) start }
     ensures too_small { (budget : Budget) (needed : ℕ) →
         (result ≡ Err (AllocateRefusal.LimitTooSmall budget needed)) ↔
-        (IsOutermostBroken limits.now (P.held_for price.old (P.counts price.old)) budget
-        × (needed ≡ held_in (P.held_for price.old (P.counts price.old)) budget)) }
+        IsTooSmall limits.now (P.held_for price.old (P.counts price.old)) budget needed }
     ensures certified { IfOk result (λ c. (done : ℕ → List Step) × ((left : ℕ → List Step) × IsCertificate
         (frame_budgets limits.now (length (P.highest price.old)) (P.inside_of price.old) (P.held_for price.old))
         (λ b. steps_of b steps.items) (P.counts price.new) done left start c)) }

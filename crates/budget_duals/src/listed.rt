@@ -78,7 +78,7 @@ impl ListedOffers {
         requires blocks { AllByRecursion (λ s. s.block < blocks) steps.now }
         ensures blocks { IfOk result (λ o. ⟦<ListedOffers as Offers>⟧.blocks o ≡ blocks) }
         ensures done { IfOk result (λ o. (b : ℕ) → b < blocks → ⟦<ListedOffers as Offers>⟧.done o b ≡ []) }
-        ensures left { IfOk result (λ o. (b : ℕ) → b < blocks →
+        ensures left { IfOk result (λ o. (b : ℕ) →
             ⟦<ListedOffers as Offers>⟧.left o b ≡ steps_of b steps.now) }
     {
         let mut rows = empty_rows(alloc, blocks)?;

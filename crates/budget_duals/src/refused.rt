@@ -11,6 +11,7 @@ ghost use Rattle.budget_duals.specs.Listing.{refused_listed};
 ghost use Rattle.budget_duals.specs.Price.{CanTake};
 ghost use Rattle.budget_duals.specs.Tree.{closed_by};
 
+use crate::levels::closed_at;
 use crate::{Holdings, Offers, RefusedStep};
 use arrayvec::ArrayVec;
 use cine_nums::Budget;
@@ -68,7 +69,7 @@ fn add_refused<H: Holdings>(
 {
     let number = place(budget);
     if multipliers[number as usize] > 0 {
-        if let Some(step) = closed[number as usize] {
+        if let Some(step) = closed_at(closed, number) {
             let grow = grow_of(held, &step, number);
             let price = price_of(&step, grow);
             out.push(RefusedStep {
