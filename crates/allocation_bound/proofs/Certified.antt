@@ -22,16 +22,20 @@ falls_left : (done left : List Step) → IsFalling (done ++ left) → IsFalling 
 falls_left [] left fall = fall
 falls_left (s ∷ d) left fall = falls_later s.gain s.len d left fall
 
-pub certified : (w : Budgets) (steps : ℕ → List Step) (o : Outcome) → AreBudgets w → AreSteps w.blocks steps
+pub certified : (w : Budgets) (steps : ℕ → List Step) (o : Outcome) → AreBudgets w
+    → AreSteps w.blocks steps
     → IsSettled w steps o → HasCertificate w steps o
 certified w steps o budgets are h =
-    let same : upto w.blocks (over w steps o) ≡ upto w.blocks (λ b. excess (block_rate w o b) (o.left b)) =
+    let same : upto w.blocks (over w steps o)
+        ≡ upto w.blocks (λ b. excess (block_rate w o b) (o.left b)) =
     upto_same w.blocks (over w steps o) (λ b. excess (block_rate w o b) (o.left b))
     (λ b inside. over_is_excess w budgets steps o h b inside
-    (falls_left (o.done b) (o.left b) (subst IsFalling (sym (h.kept.splits b inside)) (are.fall b inside)))) in
+    (falls_left (o.done b) (o.left b)
+        (subst IsFalling (sym (h.kept.splits b inside)) (are.fall b inside)))) in
     record {
       agree = agreement w budgets steps o h;
-      gap = subst (λ (n : ℕ). IsGap (ledger w steps o) (rounded_up (n + unused_worth (ledger w steps o) (slack w o)))) same
+      gap = subst (λ (n : ℕ). IsGap (ledger w steps o)
+          (rounded_up (n + unused_worth (ledger w steps o) (slack w o)))) same
           (walk_gap w budgets steps o h);
       once = gap_once (ledger w steps o);
       rivals = λ g is. walk_rivals w budgets steps o h g is.enough;

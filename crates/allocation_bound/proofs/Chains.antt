@@ -15,12 +15,15 @@ around_within around nested (suc n) j (i ∷ r) le h =
     (h.1, rw h.1 (around_within around nested n i (around i) (omega arith) (nested i)))
 
 pub around_is_chain : (around : ℕ → List ℕ) → IsNested around → (j : ℕ) → IsChain around (around j)
-around_is_chain around nested j = around_within around nested j j (around j) (omega arith) (nested j)
+around_is_chain around nested j = around_within around nested j j (around j) (omega arith)
+    (nested j)
 
-pub chain_is_chain : (around : ℕ → List ℕ) → IsNested around → (j : ℕ) → IsChain around (chain around j)
+pub chain_is_chain : (around : ℕ → List ℕ) → IsNested around → (j : ℕ)
+    → IsChain around (chain around j)
 chain_is_chain around nested j = (refl, around_is_chain around nested j)
 
-below_more : (i j : ℕ) (r : List ℕ) → i < j → AllByRecursion (λ k. k < i) r → AllByRecursion (λ k. k < j) r
+below_more : (i j : ℕ) (r : List ℕ) → i < j → AllByRecursion (λ k. k < i) r
+    → AllByRecursion (λ k. k < j) r
 below_more i j [] lt h = tt
 below_more i j (k ∷ r) lt h = let b : k < i = h.0 in (omega arith, below_more i j r lt h.1)
 
@@ -35,7 +38,8 @@ falls_within around nested (suc n) j (i ∷ r) le h =
     (h.0, below_more i j r lt later)
 
 -- the budgets around j have lower numbers
-pub falls : (around : ℕ → List ℕ) → IsNested around → (j : ℕ) → AllByRecursion (λ k. k < j) (around j)
+pub falls : (around : ℕ → List ℕ) → IsNested around → (j : ℕ)
+    → AllByRecursion (λ k. k < j) (around j)
 falls around nested j = falls_within around nested j j (around j) (omega arith) (nested j)
 
 pub chain_below : (around : ℕ → List ℕ) → IsNested around → (j n : ℕ) → j < n

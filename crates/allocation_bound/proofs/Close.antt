@@ -15,13 +15,15 @@ use Rattle.allocation_bound.proofs.Lists.{cases_option}
 use Rattle.allocation_bound.proofs.Take.{first_none, done_steep, closing_steep}
 
 -- where no budget of a list is closed, none around one of them is
-first_none_around : (around : ℕ → List ℕ) (closed : ℕ → Option Step) (j : ℕ) (c : List ℕ) → IsChain around c
+first_none_around : (around : ℕ → List ℕ) (closed : ℕ → Option Step) (j : ℕ) (c : List ℕ)
+    → IsChain around c
     → first closed c ≡ None → IsOn j c → first closed (around j) ≡ None
 first_none_around around closed j [] h n on = absurd on
 first_none_around around closed j (i ∷ r) h n on = elim (cases_option (closed i)) [
   | inl e ↦ (let later : first closed r ≡ None = sym (first_open closed i r e) ∙ n in
       elim on [
-        | inl same ↦ subst (λ k. first closed (around k) ≡ None) same (ap (first closed) (sym h.0) ∙ later)
+        | inl same ↦ subst (λ k. first closed (around k) ≡ None) same
+            (ap (first closed) (sym h.0) ∙ later)
         | inr there ↦ first_none_around around closed j r h.1 later there
       ])
   | inr (s, e) ↦ absurd (none-some _ (sym n ∙ first_closed closed i r s e))
@@ -53,7 +55,9 @@ moved around old new j s was_open outer closed other (k ∷ r) h = elim (cases_e
   ]
 ]
 
-module _ (w : Budgets) (budgets : AreBudgets w) (steps : ℕ → List Step) (front : Step) (o : Outcome) (h : Stands w steps front o) (s : Step) (rest : List Step) (j : ℕ) (n : Outcome) (t : Closes w o s rest j n) where
+module _ (w : Budgets) (budgets : AreBudgets w) (steps : ℕ → List Step) (front : Step) (o : Outcome)
+    (h : Stands w steps front o) (s : Step) (rest : List Step) (j : ℕ) (n : Outcome)
+        (t : Closes w o s rest j n) where
   chain_of : (b : ℕ) → IsChain w.around (chain w.around (w.node b))
   chain_of b = chain_is_chain w.around budgets.nested (w.node b)
 
@@ -62,13 +66,16 @@ module _ (w : Budgets) (budgets : AreBudgets w) (steps : ℕ → List Step) (fro
   shut_moved c ch =
       moved w.around o.closed n.closed j s
       (first_none o.closed j (chain w.around (w.node s.block)) t.next.open_block t.on)
-      (first_none_around w.around o.closed j (chain w.around (w.node s.block)) (chain_of s.block) t.next.open_block t.on)
+      (first_none_around w.around o.closed j (chain w.around (w.node s.block)) (chain_of s.block)
+          t.next.open_block t.on)
       t.closed t.other_closed c ch
 
   -- a closing step is an old one or the new one
-  old_or_new : (i : ℕ) (u : Step) → n.closed i ≡ Some u → (o.closed i ≡ Some u) ⊎ ((i ≡ j) × (u ≡ s))
+  old_or_new : (i : ℕ) (u : Step) → n.closed i ≡ Some u
+      → (o.closed i ≡ Some u) ⊎ ((i ≡ j) × (u ≡ s))
   old_or_new i u e = elim (cases_eq i j) [
-    | inl same ↦ inr (same, same_Some u s (sym e ∙ subst (λ k. n.closed k ≡ Some s) (sym same) t.closed))
+    | inl same ↦ inr (same, same_Some u s
+        (sym e ∙ subst (λ k. n.closed k ≡ Some s) (sym same) t.closed))
     | inr ne ↦ inl (sym (t.other_closed i ne) ∙ e)
   ]
 
@@ -77,7 +84,8 @@ module _ (w : Budgets) (budgets : AreBudgets w) (steps : ℕ → List Step) (fro
       → (first o.closed c ≡ Some x) ⊎ ((first o.closed c ≡ None) × (s ≡ x.step))
   first_old_or_new c ch x e = elim (shut_moved c ch) [
     | inl same ↦ inl (sym same ∙ e)
-    | inr both ↦ inr (both.0, ap (λ (y : Closed). y.step) (same_Some (record { budget = j; step = s }) x (sym both.1 ∙ e)))
+    | inr both ↦ inr (both.0, ap (λ (y : Closed). y.step)
+        (same_Some (record { budget = j; step = s }) x (sym both.1 ∙ e)))
   ]
 
   still_none : (c : List ℕ) → IsChain w.around c → first n.closed c ≡ None → first o.closed c ≡ None
@@ -86,7 +94,8 @@ module _ (w : Budgets) (budgets : AreBudgets w) (steps : ℕ → List Step) (fro
     | inr both ↦ both.0
   ]
 
-  still_some : (c : List ℕ) → IsChain w.around c → (x : Closed) → first o.closed c ≡ Some x → first n.closed c ≡ Some x
+  still_some : (c : List ℕ) → IsChain w.around c → (x : Closed) → first o.closed c ≡ Some x
+      → first n.closed c ≡ Some x
   still_some c ch x e = elim (shut_moved c ch) [
     | inl same ↦ same ∙ e
     | inr both ↦ absurd (none-some x (sym both.0 ∙ e))
@@ -95,7 +104,8 @@ module _ (w : Budgets) (budgets : AreBudgets w) (steps : ℕ → List Step) (fro
   new_closing : nearest w n s.block ≡ Some (record { budget = j; step = s })
   new_closing = elim (shut_moved (chain w.around (w.node s.block)) (chain_of s.block)) [
     | inl same ↦ absurd (none-some s
-        (sym (first_none n.closed j (chain w.around (w.node s.block)) (same ∙ t.next.open_block) t.on) ∙ t.closed))
+        (sym (first_none n.closed j (chain w.around (w.node s.block)) (same ∙ t.next.open_block)
+            t.on) ∙ t.closed))
     | inr both ↦ both.1
   ]
 
@@ -114,12 +124,16 @@ module _ (w : Budgets) (budgets : AreBudgets w) (steps : ℕ → List Step) (fro
     | inr both ↦ subst (λ v. IsHead v (n.left v.block)) (sym both.1) new_head
   ]
 
-  shut_closing : (i : ℕ) (u : Step) → n.closed i ≡ Some u → nearest w n u.block ≡ Some (record { budget = i; step = u })
+  shut_closing : (i : ℕ) (u : Step) → n.closed i ≡ Some u → nearest w n u.block
+      ≡ Some (record { budget = i; step = u })
   shut_closing i u e = elim (old_or_new i u e) [
-    | inl old ↦ still_some (chain w.around (w.node u.block)) (chain_of u.block) (record { budget = i; step = u })
+    | inl old ↦ still_some (chain w.around (w.node u.block)) (chain_of u.block)
+        (record { budget = i; step = u })
         (h.kept.closing i u old)
-    | inr both ↦ subst (λ v. nearest w n v.block ≡ Some (record { budget = i; step = v })) (sym both.1)
-        (subst (λ k. nearest w n s.block ≡ Some (record { budget = k; step = s })) (sym both.0) new_closing)
+    | inr both ↦ subst (λ v. nearest w n v.block ≡ Some (record { budget = i; step = v }))
+        (sym both.1)
+        (subst (λ k. nearest w n s.block ≡ Some (record { budget = k; step = s })) (sym both.0)
+            new_closing)
   ]
 
   shut_refused : (i : ℕ) (u : Step) → n.closed i ≡ Some u → w.limit i < w.held (with_step n u) i
@@ -136,14 +150,17 @@ module _ (w : Budgets) (budgets : AreBudgets w) (steps : ℕ → List Step) (fro
     | inr both ↦ subst (λ v. IsAsSteep v s) (sym both.1) (steep_self s)
   ]
 
-  shut_outer : (i : ℕ) (u : Step) (x : Closed) → n.closed i ≡ Some u → first n.closed (w.around i) ≡ Some x
+  shut_outer : (i : ℕ) (u : Step) (x : Closed) → n.closed i ≡ Some u → first n.closed (w.around i)
+      ≡ Some x
       → IsAsSteep u x.step
-  shut_outer i u x e f = elim (first_old_or_new (w.around i) (around_is_chain w.around budgets.nested i) x f) [
+  shut_outer i u x e f = elim
+      (first_old_or_new (w.around i) (around_is_chain w.around budgets.nested i) x f) [
     | inr new ↦ subst (λ v. IsAsSteep u v) new.1 (shut_steep i u e)
     | inl g ↦ elim (old_or_new i u e) [
       | inl old ↦ h.kept.outer i u x old g
       | inr both ↦ absurd (none-some x
-          (sym (first_none_around w.around o.closed j (chain w.around (w.node s.block)) (chain_of s.block) t.next.open_block t.on)
+          (sym (first_none_around w.around o.closed j (chain w.around (w.node s.block))
+              (chain_of s.block) t.next.open_block t.on)
           ∙ subst (λ k. first o.closed (w.around k) ≡ Some x) both.0 g))
     ]
   ]
@@ -162,7 +179,8 @@ module _ (w : Budgets) (budgets : AreBudgets w) (steps : ℕ → List Step) (fro
   shut_untaken b x inside e =
       rw (t.left b) (elim (first_old_or_new (chain w.around (w.node b)) (chain_of b) x e) [
         | inl old ↦ h.kept.untaken b x inside old
-        | inr new ↦ subst (λ u. AllByRecursion (IsAsSteep u) (o.left b)) new.1 (t.next.steepest b inside new.0)
+        | inr new ↦ subst (λ u. AllByRecursion (IsAsSteep u) (o.left b)) new.1
+            (t.next.steepest b inside new.0)
       ])
 
   pub walk_close : Stands w steps s n
@@ -181,7 +199,8 @@ module _ (w : Budgets) (budgets : AreBudgets w) (steps : ℕ → List Step) (fro
       untaken = shut_untaken;
     };
     done = λ b inside e. rw (t.done b)
-        (done_steep w budgets steps front o h s rest t.next b inside (still_none (chain w.around (w.node b)) (chain_of b) e));
+        (done_steep w budgets steps front o h s rest t.next b inside
+            (still_none (chain w.around (w.node b)) (chain_of b) e));
     left = λ b inside e. rw (t.left b)
         (t.next.steepest b inside (still_none (chain w.around (w.node b)) (chain_of b) e));
     rest = shut_steep;

@@ -16,7 +16,8 @@ split_limit : (m limit body held slack : ℕ) → slack + held ≡ limit
     → m * (limit + body) ≡ m * (held + (slack + body))
 split_limit m limit body held slack e = ap (λ n. m * n) (omega arith)
 
-module _ (l : Ledger) (nested : IsNested l.around) (inside : (b : ℕ) → b < l.blocks → l.node b < l.number) where
+module _ (l : Ledger) (nested : IsNested l.around)
+    (inside : (b : ℕ) → b < l.blocks → l.node b < l.number) where
   -- what a choice costs, block by block, is its distortion and, budget by budget, the worth of its bytes
   costs : (dist bytes : ℕ → ℕ) → upto l.blocks (λ b. scale * dist b + rate_of l b * bytes b)
       ≡ scale * upto l.blocks dist + upto l.number (λ j. l.multipliers j * body_of l bytes j)
@@ -24,7 +25,8 @@ module _ (l : Ledger) (nested : IsNested l.around) (inside : (b : ℕ) → b < l
       let s : upto l.blocks (λ b. scale * dist b + rate_of l b * bytes b) ≡
       upto l.blocks (λ b. scale * dist b) + upto l.blocks (λ b. rate_of l b * bytes b) =
       upto_add l.blocks (λ b. scale * dist b) (λ b. rate_of l b * bytes b) in
-      let d : upto l.blocks (λ b. scale * dist b) ≡ scale * upto l.blocks dist = upto_scaled l.blocks dist in
+      let d : upto l.blocks (λ b. scale * dist b)
+          ≡ scale * upto l.blocks dist = upto_scaled l.blocks dist in
       let e : upto l.blocks (λ b. rate_of l b * bytes b) ≡
       upto l.number (λ j. l.multipliers j * body_of l bytes j) =
       exchange l.around nested l.number l.node l.multipliers bytes l.blocks inside in
@@ -44,7 +46,8 @@ module _ (l : Ledger) (nested : IsNested l.around) (inside : (b : ℕ) → b < l
       let s : upto l.number (λ j. l.multipliers j * (body_of l bytes j + l.held j)) ≡
       upto l.number (λ j. l.multipliers j * body_of l bytes j) + held_worth l =
       worth_add l.number l.multipliers (body_of l bytes) l.held in
-      let m : upto l.number (λ j. l.multipliers j * (body_of l bytes j + l.held j)) ≤ limit_worth l =
+      let m : upto l.number (λ j. l.multipliers j * (body_of l bytes j + l.held j))
+          ≤ limit_worth l =
       upto_le l.number (λ j. l.multipliers j * (body_of l bytes j + l.held j))
       (λ j. l.multipliers j * (l.limit j + body_of l l.bytes j))
       (λ j lt. mul-le-mul_left (l.multipliers j) (fits j lt)) in
@@ -63,14 +66,16 @@ module _ (l : Ledger) (nested : IsNested l.around) (inside : (b : ℕ) → b < l
       costs l.dist l.bytes in
       let t : upto l.blocks (λ b. scale * l.dist b + rate_of l b * l.bytes b) ≡
       upto l.blocks (λ b. l.least b + over b) =
-      upto_same l.blocks (λ b. scale * l.dist b + rate_of l b * l.bytes b) (λ b. l.least b + over b) terms in
+      upto_same l.blocks (λ b. scale * l.dist b + rate_of l b * l.bytes b) (λ b. l.least b + over b)
+          terms in
       let a : upto l.blocks (λ b. l.least b + over b) ≡ least_terms l + upto l.blocks over =
       upto_add l.blocks l.least over in
       let r : limit_worth l ≡
       upto l.number (λ j. l.multipliers j * (l.held j + (slack j + body_of l l.bytes j))) =
       upto_same l.number (λ j. l.multipliers j * (l.limit j + body_of l l.bytes j))
       (λ j. l.multipliers j * (l.held j + (slack j + body_of l l.bytes j)))
-      (λ j lt. split_limit (l.multipliers j) (l.limit j) (body_of l l.bytes j) (l.held j) (slack j) (unused j lt)) in
+      (λ j lt. split_limit (l.multipliers j) (l.limit j) (body_of l l.bytes j) (l.held j) (slack j)
+          (unused j lt)) in
       let p : upto l.number (λ j. l.multipliers j * (l.held j + (slack j + body_of l l.bytes j))) ≡
       held_worth l + upto l.number (λ j. l.multipliers j * (slack j + body_of l l.bytes j)) =
       worth_add l.number l.multipliers l.held (λ j. slack j + body_of l l.bytes j) in
@@ -88,7 +93,9 @@ module _ (l : Ledger) (nested : IsNested l.around) (inside : (b : ℕ) → b < l
       let a : scale * distortion l + limit_worth l ≡ least_terms l + held_worth l + sum =
       accounting over slack terms unused in
       record {
-        enough = (let u : sum ≤ scale * rounded_up sum = up_reaches sum (rounded_up sum) (omega arith) in omega arith);
+        enough = (let u : sum
+            ≤ scale * rounded_up sum = up_reaches sum (rounded_up sum) (omega arith) in omega
+                arith);
         least = λ g h. up_least sum g (omega arith);
       }
 

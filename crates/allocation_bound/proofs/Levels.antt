@@ -28,7 +28,8 @@ first_is closed (j ∷ r) x e = elim (cases_option (closed j)) [
   | inl n ↦ (let h = first_is closed r x (sym (first_open closed j r n) ∙ e) in (h.0, inr h.1))
   | inr (s, c) ↦ (let p : (record { budget = j; step = s }) ≡ x =
       same_Some _ x (sym (first_closed closed j r s c) ∙ e) in
-      subst (λ (y : Closed). (closed y.budget ≡ Some y.step) × IsOn y.budget (j ∷ r)) p (c, inl refl))
+      subst (λ (y : Closed). (closed y.budget ≡ Some y.step) × IsOn y.budget (j ∷ r)) p
+          (c, inl refl))
 ]
 
 pub multiplier_open : (around : ℕ → List ℕ) (closed : ℕ → Option Step) (j : ℕ) → closed j ≡ None
@@ -41,7 +42,8 @@ multiplier_closed around closed j s e = ap (λ c. above_base c (base closed (aro
 
 -- no level is below the level around it
 abbrev pub LevelsNested : (ℕ → List ℕ) → (ℕ → Option Step) → Type 0
-LevelsNested around closed = (j : ℕ) (s : Step) → closed j ≡ Some s → base closed (around j) ≤ level s
+LevelsNested around closed = (j : ℕ) (s : Step) → closed j ≡ Some s → base closed (around j)
+    ≤ level s
 
 multiplier_sum : (around : ℕ → List ℕ) (closed : ℕ → Option Step) → LevelsNested around closed
     → (c : List ℕ) → IsChain around c → total (multiplier around closed) c ≡ base closed c
@@ -68,7 +70,8 @@ level_positive s =
     let some : 1 ≤ s.gain = s.gains in
     le-div 1 (scale * s.gain) s.len s.longer (omega arith)
 
-module _ (w : Budgets) (budgets : AreBudgets w) (steps : ℕ → List Step) (o : Outcome) (h : IsSettled w steps o) where
+module _ (w : Budgets) (budgets : AreBudgets w) (steps : ℕ → List Step) (o : Outcome)
+    (h : IsSettled w steps o) where
   pub levels_nested : LevelsNested w.around o.closed
   levels_nested j s e = elim (cases_option (first o.closed (w.around j))) [
     | inl n ↦ (let z : base o.closed (w.around j) ≡ 0 = ap level_of n in omega arith)
@@ -98,11 +101,13 @@ module _ (w : Budgets) (budgets : AreBudgets w) (steps : ℕ → List Step) (o :
         let u : Step = x.step in
         rw z
         (record {
-          taken = all_weaker (λ (t : Step). IsAsSteep t u) (λ (t : Step). level u * t.len ≤ scale * t.gain)
+          taken = all_weaker (λ (t : Step). IsAsSteep t u)
+              (λ (t : Step). level u * t.len ≤ scale * t.gain)
               (λ t p. below (level u) u.len u.gain t.len t.gain u.longer p (level_low u.gain u.len))
               (o.done b) (h.kept.taken b x inside f);
           untaken = all_weaker (IsAsSteep u) (λ (t : Step). scale * t.gain < (level u + 1) * t.len)
-              (λ t p. above (level u) u.len u.gain t.len t.gain u.longer t.longer p (level_high u.gain u.len u.longer))
+              (λ t p. above (level u) u.len u.gain t.len t.gain u.longer t.longer p
+                  (level_high u.gain u.len u.longer))
               (o.left b) (h.kept.untaken b x inside f);
         }))
   ]

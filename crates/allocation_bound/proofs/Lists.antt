@@ -34,6 +34,7 @@ pub cases_option : {X : Type 0} (o : Option X) → (o ≡ None) ⊎ ((x : X) × 
 cases_option None = inl refl
 cases_option (Some x) = inr (x, refl)
 
-pub at_head : (P : Step → Type 0) (s : Step) (xs : List Step) → IsHead s xs → AllByRecursion P xs → P s
+pub at_head : (P : Step → Type 0) (s : Step) (xs : List Step) → IsHead s xs → AllByRecursion P xs
+    → P s
 at_head P s [] h all = absurd h
 at_head P s (t ∷ rest) h all = subst P h all.0

@@ -86,7 +86,8 @@ left_by : (m s g r e l d : ℕ) → 1 ≤ s → m * s ≤ scale * g → e * s + 
     → scale * e + m * (l + r) ≤ scale * d + m * l
 left_by m s g r e l d some low line =
     let a : m * s * r ≤ scale * g * r = mul-le-mul_right r low in
-    let b : scale * e + m * r ≤ scale * d = cancel_le s (scale * e + m * r) (scale * d) some (omega arith) in
+    let b : scale * e + m * r
+        ≤ scale * d = cancel_le s (scale * e + m * r) (scale * d) some (omega arith) in
     omega arith
 
 -- The corner of a bytes and the distortion e ends a step of s bytes and the gain g, and the multiplier m
@@ -101,7 +102,8 @@ right_by : (m s g r e a d : ℕ) → 1 ≤ s → scale * g ≤ m * s → e * s +
     → scale * e + m * a ≤ scale * d + m * (a + r)
 right_by m s g r e a d some high line =
     let a : scale * g * r ≤ m * s * r = mul-le-mul_right r high in
-    let b : scale * e ≤ scale * d + m * r = cancel_le s (scale * e) (scale * d + m * r) some (omega arith) in
+    let b : scale * e ≤ scale * d
+        + m * r = cancel_le s (scale * e) (scale * d + m * r) some (omega arith) in
     omega arith
 
 -- The corner begins a step whose slope is at most m: no point of no fewer bytes costs less.

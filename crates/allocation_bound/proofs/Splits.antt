@@ -17,7 +17,8 @@ best_after m s r = min-le_right (scale * gains (s ∷ r)) (m * s.len + best m r)
 
 -- no split costs less than the least
 pub best_is_least : (m : ℕ) (done left : List Step) → best m (done ++ left) ≤ cost m done left
-best_is_least m [] left = let h : best m left ≤ scale * gains left = best_at_none m left in omega arith
+best_is_least m [] left = let h : best m left
+    ≤ scale * gains left = best_at_none m left in omega arith
 best_is_least m (s ∷ d) left =
     let h : best m (d ++ left) ≤ cost m d left = best_is_least m d left in
     let g : best m (s ∷ d ++ left) ≤ m * s.len + best m (d ++ left) = best_after m s (d ++ left) in
@@ -63,8 +64,10 @@ left_loses_little m (s ∷ r) flat =
 pub excess_over_prefixes : (m : ℕ) (done left : List Step) → Agrees m done left
     → cost m done left + length left ≤ best m (done ++ left) + lens left
 excess_over_prefixes m done left a =
-    let h : m * lens done + best m left ≤ best m (done ++ left) = taken_loses_nothing m done left a.taken in
-    let g : scale * gains left + length left ≤ best m left + lens left = left_loses_little m left a.untaken in
+    let h : m * lens done + best m left
+        ≤ best m (done ++ left) = taken_loses_nothing m done left a.taken in
+    let g : scale * gains left + length left ≤ best m left
+        + lens left = left_loses_little m left a.untaken in
     omega arith
 
 -- no step after one that is not above the multiplier is above it
@@ -72,8 +75,10 @@ excess_none : (m g n : ℕ) (r : List Step) → 1 ≤ n → scale * g ≤ m * n 
     → (excess m r ≡ 0) × (scale * gains r ≤ m * lens r)
 excess_none m g n [] some low fall = (refl, omega arith)
 excess_none m g n (t ∷ r) some low fall =
-    let f : scale * t.gain ≤ m * t.len = flatter m n g t.len t.gain some (omega (arith, fall.0)) low in
-    let h : (excess m r ≡ 0) × (scale * gains r ≤ m * lens r) = excess_none m t.gain t.len r t.longer f fall.1 in
+    let f : scale * t.gain
+        ≤ m * t.len = flatter m n g t.len t.gain some (omega (arith, fall.0)) low in
+    let h : (excess m r ≡ 0)
+        × (scale * gains r ≤ m * lens r) = excess_none m t.gain t.len r t.longer f fall.1 in
     let e : excess m r ≡ 0 = h.0 in
     let l : scale * gains r ≤ m * lens r = h.1 in
     (omega arith, omega arith)
@@ -82,13 +87,16 @@ falls_on : (g n : ℕ) (r : List Step) → FallFrom g n r → IsFalling r
 falls_on g n [] fall = tt
 falls_on g n (t ∷ r) fall = fall.1
 
-left_parts : (m : ℕ) (left : List Step) → IsFalling left → scale * gains left ≡ best m left + excess m left
+left_parts : (m : ℕ) (left : List Step) → IsFalling left → scale * gains left ≡ best m left
+    + excess m left
 left_parts m [] falls = omega arith
 left_parts m (s ∷ r) falls =
-    let h : scale * gains r ≡ best m r + excess m r = left_parts m r (falls_on s.gain s.len r falls) in
+    let h : scale * gains r ≡ best m r
+        + excess m r = left_parts m r (falls_on s.gain s.len r falls) in
     let split : best m (s ∷ r) ≡ min (scale * gains (s ∷ r)) (m * s.len + best m r) = refl in
     elim (cases_lt (m * s.len) (scale * s.gain)) [
-      | inl l ↦ (let b : best m (s ∷ r) ≡ m * s.len + best m r = min-eq_right (omega arith) in omega arith)
+      | inl l ↦ (let b : best m (s ∷ r) ≡ m * s.len
+          + best m r = min-eq_right (omega arith) in omega arith)
       | inr g ↦ (let n : (excess m r ≡ 0) × (scale * gains r ≤ m * lens r) =
           excess_none m s.gain s.len r s.longer g falls in
           let e : excess m r ≡ 0 = n.0 in
@@ -100,7 +108,8 @@ left_parts m (s ∷ r) falls =
 pub positive_parts : (m : ℕ) (done left : List Step) → Agrees m done left → IsFalling left
     → cost m done left ≡ best m (done ++ left) + excess m left
 positive_parts m done left a falls =
-    let h : m * lens done + best m left ≤ best m (done ++ left) = taken_loses_nothing m done left a.taken in
+    let h : m * lens done + best m left
+        ≤ best m (done ++ left) = taken_loses_nothing m done left a.taken in
     let g : scale * gains left ≡ best m left + excess m left = left_parts m left falls in
     let i : best m (done ++ left) ≤ m * lens done + best m left = best_first m done left in
     omega arith

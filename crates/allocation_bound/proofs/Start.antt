@@ -28,7 +28,8 @@ is_steepest : (s : Step) → IsAsSteep steepest s
 unfolding steepest
 is_steepest s = omega (arith, s.longer, s.wide)
 
-none_first : (closed : ℕ → Option Step) → ((j : ℕ) → closed j ≡ None) → (c : List ℕ) → first closed c ≡ None
+none_first : (closed : ℕ → Option Step) → ((j : ℕ) → closed j ≡ None) → (c : List ℕ)
+    → first closed c ≡ None
 none_first closed all [] = refl
 none_first closed all (j ∷ r) = first_open closed j r (all j) ∙ none_first closed all r
 
@@ -56,6 +57,7 @@ walk_start w steps o h =
     }
 
 -- where no open block has a step left, the walk has settled
-pub walk_end : (w : Budgets) (steps : ℕ → List Step) (front : Step) (o : Outcome) → Stands w steps front o
+pub walk_end : (w : Budgets) (steps : ℕ → List Step) (front : Step) (o : Outcome)
+    → Stands w steps front o
     → ((b : ℕ) → b < w.blocks → nearest w o b ≡ None → o.left b ≡ []) → IsSettled w steps o
 walk_end w steps front o h none_left = record { kept = h.kept; open_done = none_left }

@@ -23,11 +23,13 @@ upto_le (suc n) f g h =
 
 pub upto_add : (n : ℕ) (f g : ℕ → ℕ) → upto n (λ j. f j + g j) ≡ upto n f + upto n g
 upto_add zero f g = refl
-upto_add (suc n) f g = let h : upto n (λ j. f j + g j) ≡ upto n f + upto n g = upto_add n f g in omega arith
+upto_add (suc n) f g = let h : upto n (λ j. f j + g j) ≡ upto n f
+    + upto n g = upto_add n f g in omega arith
 
 pub upto_scaled : (n : ℕ) (f : ℕ → ℕ) → upto n (λ j. scale * f j) ≡ scale * upto n f
 upto_scaled zero f = refl
-upto_scaled (suc n) f = let h : upto n (λ j. scale * f j) ≡ scale * upto n f = upto_scaled n f in omega arith
+upto_scaled (suc n) f = let h : upto n (λ j. scale * f j)
+    ≡ scale * upto n f = upto_scaled n f in omega arith
 
 pub upto_none : (n : ℕ) → upto n (λ j. 0) ≡ 0
 upto_none zero = refl
@@ -82,14 +84,16 @@ over_chain n m v (i ∷ r) h =
     upto n (λ j. m j * only i v j) + upto n (λ j. m j * total (λ i. only i v j) r) =
     worth_add n m (λ j. only i v j) (λ j. total (λ i. only i v j) r) in
     let a : upto n (λ j. m j * only i v j) ≡ m i * v = worth_only n m i v h.0 in
-    let b : upto n (λ j. m j * total (λ i. only i v j) r) ≡ total m r * v = over_chain n m v r h.1 in
+    let b : upto n (λ j. m j * total (λ i. only i v j) r)
+        ≡ total m r * v = over_chain n m v r h.1 in
     omega arith
 
 -- Bytes priced block by block, at the multipliers of each block's budgets together, are bytes priced
 -- budget by budget.
 pub exchange : (around : ℕ → List ℕ) → IsNested around → (n : ℕ) (node m x : ℕ → ℕ) (blocks : ℕ)
     → ((b : ℕ) → b < blocks → node b < n)
-    → upto blocks (λ b. rate around m (node b) * x b) ≡ upto n (λ j. m j * body around node x blocks j)
+    → upto blocks (λ b. rate around m (node b) * x b)
+        ≡ upto n (λ j. m j * body around node x blocks j)
 exchange around nested n node m x zero inside = sym (worth_zero n m)
 exchange around nested n node m x (suc b) inside =
     let one : ℕ → ℕ = λ j. total (λ i. only i (x b) j) (chain around (node b)) in
@@ -97,7 +101,9 @@ exchange around nested n node m x (suc b) inside =
     upto n (λ j. m j * body around node x b j) + upto n (λ j. m j * one j) =
     worth_add n m (λ j. body around node x b j) one in
     let a : upto n (λ j. m j * one j) ≡ total m (chain around (node b)) * x b =
-    over_chain n m (x b) (chain around (node b)) (chain_below around nested (node b) n (inside b (omega arith))) in
-    let h : upto b (λ b. rate around m (node b) * x b) ≡ upto n (λ j. m j * body around node x b j) =
+    over_chain n m (x b) (chain around (node b))
+        (chain_below around nested (node b) n (inside b (omega arith))) in
+    let h : upto b (λ b. rate around m (node b) * x b)
+        ≡ upto n (λ j. m j * body around node x b j) =
     exchange around nested n node m x b (λ k lt. inside k (omega arith)) in
     omega arith

@@ -27,21 +27,25 @@ first_none closed j (i ∷ r) n on = elim (cases_option (closed i)) [
   | inr (s, e) ↦ absurd (none-some _ (sym n ∙ first_closed closed i r s e))
 ]
 
-first_same : (old new : ℕ → Option Step) → ((j : ℕ) → new j ≡ old j) → (c : List ℕ) → first new c ≡ first old c
+first_same : (old new : ℕ → Option Step) → ((j : ℕ) → new j ≡ old j) → (c : List ℕ) → first new c
+    ≡ first old c
 first_same old new same [] = refl
 first_same old new same (j ∷ r) =
-    ap (λ c. nearer j c (first new r)) (same j) ∙ ap (λ x. nearer j (old j) x) (first_same old new same r)
+    ap (λ c. nearer j c (first new r)) (same j) ∙ ap (λ x. nearer j (old j) x)
+        (first_same old new same r)
 
 end_push : (c : ℕ) (done : List Step) (s : Step) → end_of c (done ++ s ∷ []) ≡ s.to
 end_push c [] s = refl
 end_push c (t ∷ d) s = end_push t.to d s
 
-module _ (w : Budgets) (budgets : AreBudgets w) (steps : ℕ → List Step) (front : Step) (o : Outcome) (h : Stands w steps front o) (s : Step) (rest : List Step) (next : IsNext w o s rest) where
+module _ (w : Budgets) (budgets : AreBudgets w) (steps : ℕ → List Step) (front : Step) (o : Outcome)
+    (h : Stands w steps front o) (s : Step) (rest : List Step) (next : IsNext w o s rest) where
   -- of the step that a move is made by
   pub front_steep : IsAsSteep front s
   front_steep = (rw next.head at (h.left s.block next.inside next.open_block)).0
 
-  pub done_steep : (b : ℕ) → b < w.blocks → nearest w o b ≡ None → AllByRecursion (λ (t : Step). IsAsSteep t s) (o.done b)
+  pub done_steep : (b : ℕ) → b < w.blocks → nearest w o b ≡ None
+      → AllByRecursion (λ (t : Step). IsAsSteep t s) (o.done b)
   done_steep b inside none =
       all_weaker (λ (t : Step). IsAsSteep t front) (λ (t : Step). IsAsSteep t s)
       (λ t p. steep_through t front s p front_steep) (o.done b) (h.done b inside none)
@@ -54,7 +58,9 @@ module _ (w : Budgets) (budgets : AreBudgets w) (steps : ℕ → List Step) (fro
   not_moved b x e same =
       none-some x (sym next.open_block ∙ subst (λ c. nearest w o c ≡ Some x) same e)
 
-module _ (w : Budgets) (budgets : AreBudgets w) (steps : ℕ → List Step) (front : Step) (o : Outcome) (h : Stands w steps front o) (s : Step) (rest : List Step) (n : Outcome) (t : Takes w o s rest n) where
+module _ (w : Budgets) (budgets : AreBudgets w) (steps : ℕ → List Step) (front : Step) (o : Outcome)
+    (h : Stands w steps front o) (s : Step) (rest : List Step) (n : Outcome)
+        (t : Takes w o s rest n) where
   own : List ℕ
   own = chain w.around (w.node s.block)
 
@@ -72,13 +78,15 @@ module _ (w : Budgets) (budgets : AreBudgets w) (steps : ℕ → List Step) (fro
   take_within j lt =
       rw t.counts (elim (cases_on j own) [
         | inl on ↦ t.fits j on
-        | inr off ↦ rw (budgets.elsewhere o.counts s.block s.to j h.kept.long t.next.inside off) (h.kept.within j lt)
+        | inr off ↦ rw (budgets.elsewhere o.counts s.block s.to j h.kept.long t.next.inside off)
+            (h.kept.within j lt)
       ])
 
   take_splits : (b : ℕ) → b < w.blocks → n.done b ++ n.left b ≡ steps b
   take_splits b inside = elim (cases_eq b s.block) [
     | inl e ↦ subst (λ c. n.done c ++ n.left c ≡ steps c) (sym e)
-        (rw (t.done, t.left) (moved_over (o.done s.block) s rest ∙ (rw t.next.head at (h.kept.splits s.block t.next.inside))))
+        (rw (t.done, t.left) (moved_over (o.done s.block) s rest ∙
+            (rw t.next.head at (h.kept.splits s.block t.next.inside))))
     | inr ne ↦ rw (t.other_done b ne, t.other_left b ne) (h.kept.splits b inside)
   ]
 
@@ -109,7 +117,8 @@ module _ (w : Budgets) (budgets : AreBudgets w) (steps : ℕ → List Step) (fro
 
   off_chain : (j : ℕ) (u : Step) → o.closed j ≡ Some u → ¬ IsOn j (chain w.around (w.node s.block))
   off_chain j u e on =
-      none-some u (sym (first_none o.closed j (chain w.around (w.node s.block)) t.next.open_block on) ∙ e)
+      none-some u (sym (first_none o.closed j (chain w.around (w.node s.block)) t.next.open_block
+          on) ∙ e)
 
   on_own : (j : ℕ) (u : Step) → o.closed j ≡ Some u → IsOn j (chain w.around (w.node u.block))
   on_own j u e = (first_is o.closed (chain w.around (w.node u.block)) _ (h.kept.closing j u e)).1
@@ -117,17 +126,21 @@ module _ (w : Budgets) (budgets : AreBudgets w) (steps : ℕ → List Step) (fro
   long_after : length (with_step o s) ≡ w.blocks
   long_after = length-set o.counts s.block s.to ∙ h.kept.long
 
-  agree : (j : ℕ) (u : Step) → o.closed j ≡ Some u → (x : ℕ) → x < w.blocks → w.node x ≡ w.node u.block
+  agree : (j : ℕ) (u : Step) → o.closed j ≡ Some u → (x : ℕ) → x < w.blocks → w.node x
+      ≡ w.node u.block
       → get_or (with_step o s) x 0 ≡ get_or o.counts x 0
   agree j u e x inside at_node = get_or-set_other o.counts s.block x s.to 0 (λ same.
-      off_chain j u e (subst (λ c. IsOn j (chain w.around c)) (sym at_node ∙ ap w.node same) (on_own j u e)))
+      off_chain j u e (subst (λ c. IsOn j (chain w.around c)) (sym at_node ∙ ap w.node same)
+          (on_own j u e)))
 
   -- what a budget refused it refuses still
-  still_refused : (j : ℕ) (u : Step) → o.closed j ≡ Some u → w.limit j < w.held (set (with_step o s) u.block u.to) j
+  still_refused : (j : ℕ) (u : Step) → o.closed j ≡ Some u
+      → w.limit j < w.held (set (with_step o s) u.block u.to) j
   still_refused j u e =
       let same : w.held (set (with_step o s) u.block u.to) j + w.held o.counts j
       ≡ w.held (set o.counts u.block u.to) j + w.held (with_step o s) j =
-      budgets.depends o.counts (with_step o s) u.block u.to j h.kept.long long_after (h.kept.inside j u e) (agree j u e) in
+      budgets.depends o.counts (with_step o s) u.block u.to j h.kept.long long_after
+          (h.kept.inside j u e) (agree j u e) in
       let stays : w.held (with_step o s) j ≡ w.held o.counts j =
       budgets.elsewhere o.counts s.block s.to j h.kept.long t.next.inside (off_chain j u e) in
       let over : w.limit j < w.held (set o.counts u.block u.to) j = h.kept.refused j u e in
@@ -140,8 +153,10 @@ module _ (w : Budgets) (budgets : AreBudgets w) (steps : ℕ → List Step) (fro
     splits = take_splits;
     places = take_places;
     inside = λ j u e. h.kept.inside j u (was_closed j u e);
-    heads = λ j u e. rw (t.other_left u.block (closer_stays j u (was_closed j u e))) (h.kept.heads j u (was_closed j u e));
-    closing = λ j u e. same_first (chain w.around (w.node u.block)) ∙ h.kept.closing j u (was_closed j u e);
+    heads = λ j u e. rw (t.other_left u.block (closer_stays j u (was_closed j u e)))
+        (h.kept.heads j u (was_closed j u e));
+    closing = λ j u e. same_first (chain w.around (w.node u.block)) ∙ h.kept.closing j u
+        (was_closed j u e);
     refused = λ j u e. rw t.counts (still_refused j u (was_closed j u e));
     outer = λ j u x e f. h.kept.outer j u x (was_closed j u e) (was_first (w.around j) x f);
     taken = λ b x inside e.
@@ -158,15 +173,19 @@ module _ (w : Budgets) (budgets : AreBudgets w) (steps : ℕ → List Step) (fro
     done = λ b inside e.
         let f : nearest w o b ≡ None = was_none (chain w.around (w.node b)) e in
         elim (cases_eq b s.block) [
-          | inl same ↦ subst (λ c. AllByRecursion (λ (t : Step). IsAsSteep t s) (n.done c)) (sym same)
+          | inl same ↦ subst (λ c. AllByRecursion (λ (t : Step). IsAsSteep t s) (n.done c))
+              (sym same)
               (rw t.done (all_more (λ (t : Step). IsAsSteep t s) (o.done s.block) s
-              (done_steep w budgets steps front o h s rest t.next s.block t.next.inside t.next.open_block) (steep_self s)))
-          | inr ne ↦ rw (t.other_done b ne) (done_steep w budgets steps front o h s rest t.next b inside f)
+              (done_steep w budgets steps front o h s rest t.next s.block t.next.inside
+                  t.next.open_block) (steep_self s)))
+          | inr ne ↦ rw (t.other_done b ne)
+              (done_steep w budgets steps front o h s rest t.next b inside f)
         ];
     left = λ b inside e.
         let f : nearest w o b ≡ None = was_none (chain w.around (w.node b)) e in
         elim (cases_eq b s.block) [
-          | inl same ↦ subst (λ c. AllByRecursion (IsAsSteep s) (n.left c)) (sym same) (rw t.left rest_steep)
+          | inl same ↦ subst (λ c. AllByRecursion (IsAsSteep s) (n.left c)) (sym same)
+              (rw t.left rest_steep)
           | inr ne ↦ rw (t.other_left b ne) (t.next.steepest b inside f)
         ];
     rest = λ j u e. closing_steep w budgets steps front o h s rest t.next j u (was_closed j u e);

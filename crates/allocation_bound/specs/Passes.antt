@@ -6,9 +6,9 @@ use Rattle.rd_hulls.specs.Points.{point_at, ArePoints}
 use Rattle.rd_hulls.specs.Hull.{IsHull, IsHullStep}
 use Rattle.allocation_bound.specs.Sums.{upto}
 use Rattle.allocation_bound.specs.Steps.{scale}
-use Rattle.allocation_bound.specs.Settled.{Budgets, Outcome, multiplier_of, block_rate}
+use Rattle.allocation_bound.specs.Settled.{Budgets, Outcome, block_rate}
 use Rattle.allocation_bound.specs.Ledger.{Ledger, IsGap, FitsBeside, distortion}
-use Rattle.allocation_bound.specs.Refused.{ledger}
+use Rattle.allocation_bound.specs.Refused.{ledger, ledger_of}
 
 -- what a point costs at the multiplier m
 abbrev pub term : ℕ → Point → ℕ
@@ -27,27 +27,20 @@ chosen_point points counts b = point_at (points b) (counts b)
 
 -- the ledger of what a walk leaves, over all pass counts of each block
 abbrev pub pass_ledger : Budgets → (ℕ → List Point) → (ℕ → ℕ) → Outcome → Ledger
-pass_ledger w points least o = record {
-  number = w.number;
-  around = w.around;
-  blocks = w.blocks;
-  node = w.node;
-  multipliers = multiplier_of w o;
-  limit = w.limit;
-  held = w.held o.counts;
-  bytes = λ b. (chosen_point points (λ x. get_or o.counts x 0) b).len;
-  dist = λ b. (chosen_point points (λ x. get_or o.counts x 0) b).dist;
-  least = least;
-}
+pass_ledger w points least o =
+    ledger_of w o (λ b. (chosen_point points (λ x. get_or o.counts x 0) b).len)
+    (λ b. (chosen_point points (λ x. get_or o.counts x 0) b).dist) least
 
 -- the points of each block, their hull, and each block's least term
-pub record HaveTerms (w : Budgets) (steps : ℕ → List Step) (o : Outcome) (pts : ℕ → List Point) (least : ℕ → ℕ) : Type 0 where
+pub record HaveTerms (w : Budgets) (steps : ℕ → List Step) (o : Outcome) (pts : ℕ → List Point)
+    (least : ℕ → ℕ) : Type 0 where
   pub points : (b : ℕ) → b < w.blocks → ArePoints (pts b)
   pub hulls : (b : ℕ) → b < w.blocks → IsHull b (pts b) (steps b)
   pub terms : (b : ℕ) → b < w.blocks → IsLeastTerm (pts b) (block_rate w o b) (least b)
 
 -- The promise over all pass counts of all blocks.
-pub record HasPassCertificate (w : Budgets) (steps : ℕ → List Step) (o : Outcome) (points : ℕ → List Point) (least : ℕ → ℕ) : Type 0 where
+pub record HasPassCertificate (w : Budgets) (steps : ℕ → List Step) (o : Outcome)
+    (points : ℕ → List Point) (least : ℕ → ℕ) : Type 0 where
   -- the gap is the same number
   pub gap : (g : ℕ) → IsGap (ledger w steps o) g → IsGap (pass_ledger w points least o) g
   -- No choice of passes that fits beside the written headers has a distortion below the chosen one's,
@@ -55,7 +48,8 @@ pub record HasPassCertificate (w : Budgets) (steps : ℕ → List Step) (o : Out
   pub rivals : (g : ℕ) → IsGap (pass_ledger w points least o) g → (choice : ℕ → ℕ)
       → ((b : ℕ) → b < w.blocks → choice b < length (points b))
       → FitsBeside (pass_ledger w points least o) (λ b. (chosen_point points choice b).len)
-      → distortion (pass_ledger w points least o) ≤ upto w.blocks (λ b. (chosen_point points choice b).dist) + g
+      → distortion (pass_ledger w points least o)
+          ≤ upto w.blocks (λ b. (chosen_point points choice b).dist) + g
   -- A block's chosen term is at most 2^17 above each other one.
   pub chosen : (b : ℕ) → b < w.blocks → (k : ℕ) → k < length (points b)
       → term (block_rate w o b) (point_at (points b) (get_or o.counts b 0))

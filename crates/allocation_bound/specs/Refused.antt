@@ -36,9 +36,10 @@ pub record IsRefused (w : Budgets) (o : Outcome) (j : ℕ) (s : Step) : Type 0 w
   pub breaks : w.limit j < w.held (with_step o s) j
   pub unused : w.limit j < w.held o.counts j + (s.len + grow w o s j)
 
--- the ledger of what a walk leaves, over the ways to take the first steps of each block
-abbrev pub ledger : Budgets → (ℕ → List Step) → Outcome → Ledger
-ledger w steps o = record {
+-- the ledger of what a walk leaves, with the bytes and the distortion of each block as chosen, and its
+-- least term
+abbrev pub ledger_of : Budgets → Outcome → (ℕ → ℕ) → (ℕ → ℕ) → (ℕ → ℕ) → Ledger
+ledger_of w o bytes dist least = record {
   number = w.number;
   around = w.around;
   blocks = w.blocks;
@@ -46,10 +47,16 @@ ledger w steps o = record {
   multipliers = multiplier_of w o;
   limit = w.limit;
   held = w.held o.counts;
-  bytes = λ b. lens (o.done b);
-  dist = λ b. gains (o.left b);
-  least = λ b. best (block_rate w o b) (steps b);
+  bytes = bytes;
+  dist = dist;
+  least = least;
 }
+
+-- over the ways to take the first steps of each block
+abbrev pub ledger : Budgets → (ℕ → List Step) → Outcome → Ledger
+ledger w steps o =
+    ledger_of w o (λ b. lens (o.done b)) (λ b. gains (o.left b))
+        (λ b. best (block_rate w o b) (steps b))
 
 -- what each budget has unused of its limit
 abbrev pub slack : Budgets → Outcome → ℕ → ℕ

@@ -24,7 +24,8 @@ pub record AreBudgets (w : Budgets) : Type 0 where
   pub inside : (b : ℕ) → b < w.blocks → w.node b < w.number
   pub elsewhere : (c : List ℕ) (b to j : ℕ) → length c ≡ w.blocks → b < w.blocks
       → ¬ IsOn j (chain w.around (w.node b)) → w.held (set c b to) j ≡ w.held c j
-  pub depends : (c d : List ℕ) (b to j : ℕ) → length c ≡ w.blocks → length d ≡ w.blocks → b < w.blocks
+  pub depends : (c d : List ℕ) (b to j : ℕ) → length c ≡ w.blocks → length d ≡ w.blocks
+      → b < w.blocks
       → ((x : ℕ) → x < w.blocks → w.node x ≡ w.node b → get_or d x 0 ≡ get_or c x 0)
       → w.held (set d b to) j + w.held c j ≡ w.held (set c b to) j + w.held d j
 

@@ -12,7 +12,8 @@ pub record Stands (w : Budgets) (steps : ℕ → List Step) (front : Step) (o : 
   pub kept : IsKept w steps o
   pub done : (b : ℕ) → b < w.blocks → nearest w o b ≡ None
       → AllByRecursion (λ (t : Step). IsAsSteep t front) (o.done b)
-  pub left : (b : ℕ) → b < w.blocks → nearest w o b ≡ None → AllByRecursion (IsAsSteep front) (o.left b)
+  pub left : (b : ℕ) → b < w.blocks → nearest w o b ≡ None
+      → AllByRecursion (IsAsSteep front) (o.left b)
   pub rest : (j : ℕ) (s : Step) → o.closed j ≡ Some s → IsAsSteep s front
 
 -- The step that a move is made by: the next one of an open block, at least as steep as all that open
@@ -21,12 +22,15 @@ pub record IsNext (w : Budgets) (o : Outcome) (s : Step) (rest : List Step) : Ty
   pub inside : s.block < w.blocks
   pub open_block : nearest w o s.block ≡ None
   pub head : o.left s.block ≡ s ∷ rest
-  pub steepest : (b : ℕ) → b < w.blocks → nearest w o b ≡ None → AllByRecursion (IsAsSteep s) (o.left b)
+  pub steepest : (b : ℕ) → b < w.blocks → nearest w o b ≡ None
+      → AllByRecursion (IsAsSteep s) (o.left b)
 
 -- the step is taken, as it breaks no limit of its block's budgets
-pub record Takes (w : Budgets) (o : Outcome) (s : Step) (rest : List Step) (n : Outcome) : Type 0 where
+pub record Takes (w : Budgets) (o : Outcome) (s : Step) (rest : List Step) (n : Outcome) : Type 0
+    where
   pub next : IsNext w o s rest
-  pub fits : (j : ℕ) → IsOn j (chain w.around (w.node s.block)) → w.held (with_step o s) j ≤ w.limit j
+  pub fits : (j : ℕ) → IsOn j (chain w.around (w.node s.block)) → w.held (with_step o s) j
+      ≤ w.limit j
   pub counts : n.counts ≡ with_step o s
   pub done : n.done s.block ≡ o.done s.block ++ s ∷ []
   pub left : n.left s.block ≡ rest
@@ -35,7 +39,8 @@ pub record Takes (w : Budgets) (o : Outcome) (s : Step) (rest : List Step) (n : 
   pub closed : (j : ℕ) → n.closed j ≡ o.closed j
 
 -- the step closes a budget of its block, one whose limit it would break
-pub record Closes (w : Budgets) (o : Outcome) (s : Step) (rest : List Step) (j : ℕ) (n : Outcome) : Type 0 where
+pub record Closes (w : Budgets) (o : Outcome) (s : Step) (rest : List Step) (j : ℕ) (n : Outcome) :
+    Type 0 where
   pub next : IsNext w o s rest
   pub on : IsOn j (chain w.around (w.node s.block))
   pub breaks : w.limit j < w.held (with_step o s) j

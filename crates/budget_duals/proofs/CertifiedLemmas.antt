@@ -1,13 +1,13 @@
 -- What an allocation leaves is what the certificate says.
-use Rattle.std.proofs.Common.{ℕ, zero, suc, ◌≡◌, ◌+◌, ◌*◌, ◌<◌, ◌≤◌, ◌^◌, ◌==◌, if◌then◌else◌, Bool, true, false, List, [], ◌∷◌, ◌++◌, length, set, get_or, Option, Some, None, arith, refl, sym, ap, subst, ◌∙◌}
+use Rattle.std.proofs.Common.{ℕ, ◌≡◌, ◌+◌, ◌*◌, ◌<◌, ◌≤◌, ◌^◌, ◌==◌, if◌then◌else◌, Bool, true, false, List, [], ◌∷◌, ◌++◌, length, get_or, Option, Some, None, arith, refl, sym, ap, subst, ◌∙◌}
 use Rattle.std.specs.List.{AllByRecursion}
 use Rattle.cine_nums.specs.declared.budget.Budget.{Budget}
 use Rattle.cine_nums.specs.declared.budget.Budget.TheVariants.{Frame, Inner, C0, C1, C2}
 use Rattle.rd_hulls.specs.declared.step.Step.{Step}
-use Rattle.allocation_bound.specs.Laws.{HasCertificate, excess_and_unused}
-use Rattle.allocation_bound.specs.Ledger.{IsGap, rounded_up}
+use Rattle.allocation_bound.specs.Laws.{HasCertificate}
+use Rattle.allocation_bound.specs.Ledger.{IsGap}
 use Rattle.allocation_bound.specs.Refused.{grow, price, price_at, refused_price, ledger}
-use Rattle.allocation_bound.specs.Settled.{Budgets, AreBudgets, Outcome, IsSettled, multiplier_of, block_rate}
+use Rattle.allocation_bound.specs.Settled.{Budgets, Outcome, IsSettled, multiplier_of, block_rate}
 use Rattle.allocation_bound.specs.Steps.{best, cost, gains, lens, scale}
 use Rattle.allocation_bound.specs.Sums.{upto, total}
 use Rattle.allocation_bound.proofs.Lists.{all_after, at_head}
@@ -31,7 +31,8 @@ use Rattle.budget_duals.proofs.DualLemmas.{lens_after, left_bytes}
 use Rattle.budget_duals.proofs.GainLemmas.{gains_append}
 
 -- a step that closed a budget can still be taken
-pub can_take_refused : (w : Budgets) (steps : ℕ → List Step) (o : Outcome) (most : List ℕ) → IsSettled w steps o
+pub can_take_refused : (w : Budgets) (steps : ℕ → List Step) (o : Outcome) (most : List ℕ)
+    → IsSettled w steps o
     → HasCertificate w steps o → length most ≡ w.blocks → CanWalk most steps → (j : ℕ) (s : Step)
     → o.closed j ≡ Some s → CanTake most o.counts s
 can_take_refused w steps o most settled certificate long can j s e =
@@ -43,7 +44,8 @@ can_take_refused w steps o most settled certificate long can j s e =
       from = (certificate.refused j s e).count;
       to = at_head (λ (t : Step). t.to ≤ get_or most b 0) s (o.left b) (settled.kept.heads j s e)
           (all_after (λ (t : Step). t.to ≤ get_or most b 0) (o.done b) (o.left b)
-          (subst (AllByRecursion (λ (t : Step). t.to ≤ get_or most b 0)) (sym (settled.kept.splits b inside)) (can.to b below)));
+          (subst (AllByRecursion (λ (t : Step). t.to ≤ get_or most b 0))
+              (sym (settled.kept.splits b inside)) (can.to b below)));
     }
 
 -- what was taken gains no more than all steps
@@ -51,15 +53,19 @@ pub taken_gains : (w : Budgets) (steps : ℕ → List Step) (o : Outcome) → Is
     → upto w.blocks (λ b. gains (o.done b)) ≤ upto w.blocks (λ b. gains (steps b))
 taken_gains w steps o settled =
     upto_le w.blocks (λ b. gains (o.done b)) (λ b. gains (steps b))
-    (λ b inside. subst (λ (l : List Step). gains (o.done b) ≤ gains l) (settled.kept.splits b inside)
-    (let e : gains (o.done b ++ o.left b) ≡ gains (o.done b) + gains (o.left b) = gains_append (o.done b) (o.left b) in omega arith))
+    (λ b inside. subst (λ (l : List Step). gains (o.done b) ≤ gains l)
+        (settled.kept.splits b inside)
+    (let e : gains (o.done b ++ o.left b) ≡ gains (o.done b)
+        + gains (o.left b) = gains_append (o.done b) (o.left b) in omega arith))
 
 total_append : (xs ys : List RefusedStep)
-    → total (λ (r : RefusedStep). r.price) (xs ++ ys) ≡ total (λ (r : RefusedStep). r.price) xs + total (λ (r : RefusedStep). r.price) ys
+    → total (λ (r : RefusedStep). r.price) (xs ++ ys) ≡ total (λ (r : RefusedStep). r.price) xs
+        + total (λ (r : RefusedStep). r.price) ys
 total_append [] ys = omega arith
 total_append (x ∷ xs) ys =
     let h : total (λ (r : RefusedStep). r.price) (xs ++ ys)
-    ≡ total (λ (r : RefusedStep). r.price) xs + total (λ (r : RefusedStep). r.price) ys = total_append xs ys in
+    ≡ total (λ (r : RefusedStep). r.price) xs
+        + total (λ (r : RefusedStep). r.price) ys = total_append xs ys in
     omega arith
 
 none_or_none : (test : Bool) (n : ℕ) → n ≡ (if test then n else n)
@@ -67,14 +73,18 @@ none_or_none true n = refl
 none_or_none false n = refl
 
 one_or_none : (test : Bool) (r : RefusedStep)
-    → total (λ (x : RefusedStep). x.price) (if test then [] else r ∷ []) ≡ (if test then 0 else r.price)
+    → total (λ (x : RefusedStep). x.price) (if test then [] else r ∷ [])
+        ≡ (if test then 0 else r.price)
 one_or_none true r = refl
 one_or_none false r = omega arith
 
 -- the prices that a budget lists
 listed_price : (w : Budgets) (o : Outcome) (budget : Budget) (closed : Option Step)
-    → total (λ (r : RefusedStep). r.price) (refused_one budget (multiplier_of w o (place_of budget)) (λ s. grow w o s (place_of budget)) closed)
-    ≡ (if multiplier_of w o (place_of budget) == 0 then 0 else refused_price w o closed (place_of budget))
+    → total (λ (r : RefusedStep). r.price)
+        (refused_one budget (multiplier_of w o (place_of budget))
+            (λ s. grow w o s (place_of budget)) closed)
+    ≡ (if multiplier_of w o (place_of budget) == 0 then 0 else refused_price w o closed
+        (place_of budget))
 listed_price w o budget None = none_or_none (multiplier_of w o (place_of budget) == 0) 0
 listed_price w o budget (Some s) = one_or_none (multiplier_of w o (place_of budget) == 0) (record {
   budget = budget;
@@ -90,15 +100,23 @@ price_of_one w o budget = listed_price w o budget (o.closed (place_of budget))
 prices_are : (w : Budgets) (o : Outcome)
     → total (λ (r : RefusedStep). r.price) (refused_steps w o) ≡ upto 5 (price_at w o)
 prices_are w o =
-    let a : total (λ (r : RefusedStep). r.price) (refused_by w o Frame) ≡ price_at w o 0 = price_of_one w o Frame in
-    let b : total (λ (r : RefusedStep). r.price) (refused_by w o Inner) ≡ price_at w o 1 = price_of_one w o Inner in
-    let c : total (λ (r : RefusedStep). r.price) (refused_by w o C0) ≡ price_at w o 2 = price_of_one w o C0 in
-    let d : total (λ (r : RefusedStep). r.price) (refused_by w o C1) ≡ price_at w o 3 = price_of_one w o C1 in
-    let e : total (λ (r : RefusedStep). r.price) (refused_by w o C2) ≡ price_at w o 4 = price_of_one w o C2 in
+    let a : total (λ (r : RefusedStep). r.price) (refused_by w o Frame)
+        ≡ price_at w o 0 = price_of_one w o Frame in
+    let b : total (λ (r : RefusedStep). r.price) (refused_by w o Inner)
+        ≡ price_at w o 1 = price_of_one w o Inner in
+    let c : total (λ (r : RefusedStep). r.price) (refused_by w o C0)
+        ≡ price_at w o 2 = price_of_one w o C0 in
+    let d : total (λ (r : RefusedStep). r.price) (refused_by w o C1)
+        ≡ price_at w o 3 = price_of_one w o C1 in
+    let e : total (λ (r : RefusedStep). r.price) (refused_by w o C2)
+        ≡ price_at w o 4 = price_of_one w o C2 in
     let ab = total_append (refused_by w o Frame) (refused_by w o Inner) in
     let abc = total_append (refused_by w o Frame ++ refused_by w o Inner) (refused_by w o C0) in
-    let abcd = total_append (refused_by w o Frame ++ refused_by w o Inner ++ refused_by w o C0) (refused_by w o C1) in
-    let abcde = total_append (refused_by w o Frame ++ refused_by w o Inner ++ refused_by w o C0 ++ refused_by w o C1) (refused_by w o C2) in
+    let abcd = total_append (refused_by w o Frame ++ refused_by w o Inner ++ refused_by w o C0)
+        (refused_by w o C1) in
+    let abcde = total_append
+        (refused_by w o Frame ++ refused_by w o Inner ++ refused_by w o C0 ++ refused_by w o C1)
+            (refused_by w o C2) in
     omega arith
 
 five_same : (a b c d e p q r s t : List RefusedStep) → a ≡ p → b ≡ q → c ≡ r → d ≡ s → e ≡ t
@@ -109,9 +127,11 @@ chosen_by : (x b c l s n : ℕ) → x + n ≤ b + l → b ≤ c → l ≤ s → 
 chosen_by x b c l s n over least less = omega arith
 
 pub certified_frame : (limits : Limits) (blocks : ℕ) (inside : ℕ → Members) (held : List ℕ → Held)
-    (steps : ℕ → List Step) (counts : List ℕ) (done left : ℕ → List Step) (closed : List (Option Step))
+    (steps : ℕ → List Step) (counts : List ℕ) (done left : ℕ → List Step)
+        (closed : List (Option Step))
     (numbers : List ℕ) (gap start : ℕ) (c : Certificate)
-    → IsAllocated (frame_budgets limits blocks inside held) steps (so_far counts done left closed) numbers gap
+    → IsAllocated (frame_budgets limits blocks inside held) steps (so_far counts done left closed)
+        numbers gap
     → upto blocks (λ b. lens (steps b)) < 2 ^ 32
     → ((j : ℕ) → j < 5 → number_at c.multipliers j ≡ number_at numbers j)
     → c.gap ≡ gap → c.distortion + upto blocks (λ b. gains (done b)) ≡ start
@@ -121,21 +141,27 @@ pub certified_frame : (limits : Limits) (blocks : ℕ) (inside : ℕ → Members
     ++ refused_listed (λ k j. bytes_in (held k) j) counts numbers closed C1
     ++ refused_listed (λ k j. bytes_in (held k) j) counts numbers closed C2
     → IsCertificate (frame_budgets limits blocks inside held) steps counts done left start c
-certified_frame limits blocks inside held steps counts done left closed numbers gap start c allocated bytes same same_gap distortion listed =
+certified_frame limits blocks inside held steps counts done left closed numbers gap start c
+    allocated bytes same same_gap distortion listed =
     let w : Budgets = frame_budgets limits blocks inside held in
     let o : Outcome = so_far counts done left closed in
     let settled : IsSettled w steps o = allocated.settled in
     let certificate : HasCertificate w steps o = allocated.certificate in
     let is_gap : IsGap (ledger w steps o) c.gap =
-    subst (λ (n : ℕ). IsGap (ledger w steps o) n) (sym (same_gap ∙ allocated.gap)) certificate.gap in
+    subst (λ (n : ℕ). IsGap (ledger w steps o) n) (sym (same_gap ∙ allocated.gap)) certificate.gap
+        in
     let one : (budget : Budget) → place_of budget < 5
-    → refused_listed (λ k j. bytes_in (held k) j) counts numbers closed budget ≡ refused_by w o budget =
-    λ budget below. ap (λ m. refused_one budget m (λ s. grow w o s (place_of budget)) (closed_by closed (place_of budget)))
+    → refused_listed (λ k j. bytes_in (held k) j) counts numbers closed budget
+        ≡ refused_by w o budget =
+    λ budget below. ap (λ m. refused_one budget m (λ s. grow w o s (place_of budget))
+        (closed_by closed (place_of budget)))
     (allocated.multipliers (place_of budget) below) in
     let refused : c.refused.items ≡ refused_steps w o = listed
-    ∙ five_same _ _ _ _ _ _ _ _ _ _ (one Frame (omega arith)) (one Inner (omega arith)) (one C0 (omega arith))
+    ∙ five_same _ _ _ _ _ _ _ _ _ _ (one Frame (omega arith)) (one Inner (omega arith))
+        (one C0 (omega arith))
     (one C1 (omega arith)) (one C2 (omega arith)) in
-    let fewer : upto blocks (λ b. lens (left b)) ≤ upto blocks (λ b. lens (steps b)) = left_bytes w steps o settled in
+    let fewer : upto blocks (λ b. lens (left b))
+        ≤ upto blocks (λ b. lens (steps b)) = left_bytes w steps o settled in
     let few : upto blocks (λ b. lens (left b)) ≤ scale * 1 = omega arith in
     let below : c.gap ≤ upto 5 (price_at w o) + 1 = certificate.below_prices 1 c.gap few is_gap in
     let prices : total (λ (r : RefusedStep). r.price) c.refused.items ≡ upto 5 (price_at w o) =
@@ -149,13 +175,18 @@ certified_frame limits blocks inside held steps counts done left closed numbers 
       chosen = λ b lt taken rest split.
           chosen_by (cost (block_rate w o b) (done b) (left b)) (best (block_rate w o b) (steps b))
           (cost (block_rate w o b) taken rest) (lens (left b)) (lens (steps b)) (length (left b))
-          (subst (λ (l : List Step). cost (block_rate w o b) (done b) (left b) + length (left b) ≤ best (block_rate w o b) l + lens (left b))
-          (settled.kept.splits b lt) (excess_over_prefixes (block_rate w o b) (done b) (left b) (certificate.agree b lt)))
-          (subst (λ (l : List Step). best (block_rate w o b) l ≤ cost (block_rate w o b) taken rest) split
+          (subst (λ (l : List Step). cost (block_rate w o b) (done b) (left b) + length (left b)
+              ≤ best (block_rate w o b) l + lens (left b))
+          (settled.kept.splits b lt)
+              (excess_over_prefixes (block_rate w o b) (done b) (left b) (certificate.agree b lt)))
+          (subst (λ (l : List Step). best (block_rate w o b) l ≤ cost (block_rate w o b) taken rest)
+              split
           (best_is_least (block_rate w o b) taken rest))
-          (subst (λ (l : List Step). lens (left b) ≤ lens l) (settled.kept.splits b lt) (lens_after (done b) (left b)));
+          (subst (λ (l : List Step). lens (left b) ≤ lens l) (settled.kept.splits b lt)
+              (lens_after (done b) (left b)));
       distortion = distortion;
       refused = refused;
       below_prices = omega arith;
-      none = λ zeros. certificate.none (λ j lt. sym (same j lt ∙ allocated.multipliers j lt) ∙ zeros j lt) c.gap is_gap;
+      none = λ zeros. certificate.none
+          (λ j lt. sym (same j lt ∙ allocated.multipliers j lt) ∙ zeros j lt) c.gap is_gap;
     }

@@ -19,8 +19,10 @@ step_same s t h = cc
 place_in : (l : List HullStep) (p : ℕ) (s : HullStep) → offer_of (drop p l) ≡ Step s → p < length l
 place_in l p s h = omega (arith, some_left (drop p l) s h, length-drop p l)
 
-head_at : (l : List HullStep) (p : ℕ) (s : HullStep) → offer_of (drop p l) ≡ Step s → get_or l p s ≡ s
-head_at l p s h = step_same s (get_or l p s) (ap offer_of (sym (drop-cons l p s (place_in l p s h))) ∙ h)
+head_at : (l : List HullStep) (p : ℕ) (s : HullStep) → offer_of (drop p l) ≡ Step s → get_or l p s
+    ≡ s
+head_at l p s h = step_same s (get_or l p s)
+    (ap offer_of (sym (drop-cons l p s (place_in l p s h))) ∙ h)
 
 -- what stands within a list is there whatever the default
 pub any_default : (xs : List ℕ) (i d e : ℕ) → i < length xs → get_or xs i d ≡ get_or xs i e
@@ -30,47 +32,57 @@ any_default xs i d e below =
     let both : Some (get_or xs i d) ≡ Some (get_or xs i e) = sym first ∙ second in
     cc
 
-pub took_left : (rows : List (List HullStep)) (places : List ℕ) (b q : ℕ) (s : HullStep) → b < length places
+pub took_left : (rows : List (List HullStep)) (places : List ℕ) (b q : ℕ) (s : HullStep)
+    → b < length places
     → q ≡ get_or places b q → offer_at rows places b ≡ Step s
     → left_at rows places b ≡ s ∷ left_at rows (set places b (q + 1)) b
 took_left rows places b q s below is h =
     let l : List HullStep = list_at rows b in
     let p : ℕ = get_or places b 0 in
     let here = is ∙ any_default places b q 0 below in
-    let next : get_or (set places b (q + 1)) b 0 ≡ suc p = get_or-set_same places b (q + 1) 0 below ∙ (add-one q ∙ ap suc here) in
+    let next : get_or (set places b (q + 1)) b 0
+        ≡ suc p = get_or-set_same places b (q + 1) 0 below ∙ (add-one q ∙ ap suc here) in
     drop-cons l p s (place_in l p s h)
     ∙ (ap (λ (t : HullStep). t ∷ drop (suc p) l) (head_at l p s h)
     ∙ ap (λ (n : ℕ). s ∷ drop n l) (sym next))
 
-pub took_done : (rows : List (List HullStep)) (places : List ℕ) (b q : ℕ) (s : HullStep) → b < length places
+pub took_done : (rows : List (List HullStep)) (places : List ℕ) (b q : ℕ) (s : HullStep)
+    → b < length places
     → q ≡ get_or places b q → offer_at rows places b ≡ Step s
     → done_at rows (set places b (q + 1)) b ≡ done_at rows places b ++ s ∷ []
 took_done rows places b q s below is h =
     let l : List HullStep = list_at rows b in
     let p : ℕ = get_or places b 0 in
     let here = is ∙ any_default places b q 0 below in
-    let next : get_or (set places b (q + 1)) b 0 ≡ p + 1 = get_or-set_same places b (q + 1) 0 below ∙ ap (λ (n : ℕ). n + 1) here in
+    let next : get_or (set places b (q + 1)) b 0 ≡ p
+        + 1 = get_or-set_same places b (q + 1) 0 below ∙ ap (λ (n : ℕ). n + 1) here in
     ap (λ (n : ℕ). take n l) next
     ∙ (take_more l p s (place_in l p s h)
     ∙ ap (λ (t : HullStep). take p l ++ t ∷ []) (head_at l p s h))
 
 -- the excess of steps that are all less steep than the next multiplier is below their bytes
-pub excess_short : (m : ℕ) (left : List HullStep) → Each (λ s. scale * s.gain < (m + 1) * s.len) left → excess_of m left ≤ 131072 * length left
+pub excess_short : (m : ℕ) (left : List HullStep)
+    → Each (λ s. scale * s.gain < (m + 1) * s.len) left → excess_of m left ≤ 131072 * length left
 excess_short m [] all = omega arith
 excess_short m (s ∷ rest) all = omega (arith, excess_short m rest all.1, all.0, s.short)
 
-pub excess_more : (m : ℕ) (front : List HullStep) (s : HullStep) → excess_of m (front ++ s ∷ []) ≡ excess_of m front + (scale * s.gain - m * s.len)
+pub excess_more : (m : ℕ) (front : List HullStep) (s : HullStep) → excess_of m (front ++ s ∷ [])
+    ≡ excess_of m front + (scale * s.gain - m * s.len)
 excess_more m [] s = omega arith
 excess_more m (t ∷ rest) s = omega (arith, excess_more m rest s)
 
-pub each_take : (P : HullStep → Type 0) (n : ℕ) (steps : List HullStep) → Each P steps → Each P (take n steps)
+pub each_take : (P : HullStep → Type 0) (n : ℕ) (steps : List HullStep) → Each P steps
+    → Each P (take n steps)
 each_take P zero steps all = tt
 each_take P (suc n) [] all = tt
 each_take P (suc n) (s ∷ rest) all = (all.0, each_take P n rest all.1)
 
-pub excess_next : (m : ℕ) (steps : List HullStep) (i : ℕ) (s : HullStep) → i < length steps → s ≡ get_or steps i s
-    → excess_of m (take (i + 1) steps) ≡ excess_of m (take i steps) + (4294967296 * s.gain - m * s.len)
+pub excess_next : (m : ℕ) (steps : List HullStep) (i : ℕ) (s : HullStep) → i < length steps → s
+    ≡ get_or steps i s
+    → excess_of m (take (i + 1) steps) ≡ excess_of m (take i steps)
+        + (4294967296 * s.gain - m * s.len)
 excess_next m steps i s below is =
     ap (excess_of m) (take_more steps i s below)
     ∙ (excess_more m (take i steps) (get_or steps i s)
-    ∙ (ap (λ (t : HullStep). excess_of m (take i steps) + (scale * t.gain - m * t.len)) (sym is) ∙ omega arith))
+    ∙ (ap (λ (t : HullStep). excess_of m (take i steps) + (scale * t.gain - m * t.len)) (sym is) ∙
+        omega arith))

@@ -35,15 +35,18 @@ at_most_one : (b : ℕ) (e : Entry) → is_at b e ≤ 1
 at_most_one b e = grind (arith, nat_tests)
 
 -- entries none of which is of block b, and how many are
-none_at : (b : ℕ) (items : List Entry) → count_at b items ≡ 0 → AllByRecursion (λ e. ¬ (e.block ≡ b)) items
+none_at : (b : ℕ) (items : List Entry) → count_at b items ≡ 0
+    → AllByRecursion (λ e. ¬ (e.block ≡ b)) items
 none_at b [] e = tt
 none_at b (x ∷ rest) e =
     let s = sum_by-cons (is_at b) x rest in
     let here : is_at b x ≡ 0 = omega arith in
     let later : count_at b rest ≡ 0 = omega arith in
-    (λ same. (let one : is_at b x ≡ 1 = subst (λ k. is_at k x ≡ 1) same (at_own x) in omega arith), none_at b rest later)
+    (λ same. (let one : is_at b x ≡ 1 = subst (λ k. is_at k x ≡ 1) same (at_own x) in omega arith),
+        none_at b rest later)
 
-count_none : (b : ℕ) (items : List Entry) → AllByRecursion (λ e. ¬ (e.block ≡ b)) items → count_at b items ≡ 0
+count_none : (b : ℕ) (items : List Entry) → AllByRecursion (λ e. ¬ (e.block ≡ b)) items
+    → count_at b items ≡ 0
 count_none b [] all = refl
 count_none b (x ∷ rest) all =
     let s = sum_by-cons (is_at b) x rest in
@@ -51,13 +54,15 @@ count_none b (x ∷ rest) all =
     let later : count_at b rest ≡ 0 = count_none b rest all.1 in
     omega arith
 
-both_all : (P Q : Entry → Type 0) (items : List Entry) → AllByRecursion P items → AllByRecursion Q items
+both_all : (P Q : Entry → Type 0) (items : List Entry) → AllByRecursion P items
+    → AllByRecursion Q items
     → AllByRecursion (λ e. P e × Q e) items
 both_all P Q [] p q = tt
 both_all P Q (x ∷ rest) p q = ((p.0, q.0), both_all P Q rest p.1 q.1)
 
 -- where some entry is of block b, there is one
-pub found_at : (P : Entry → Type 0) (b : ℕ) (items : List Entry) → 1 ≤ count_at b items → AllByRecursion P items
+pub found_at : (P : Entry → Type 0) (b : ℕ) (items : List Entry) → 1 ≤ count_at b items
+    → AllByRecursion P items
     → (e : Entry) × (e.block ≡ b) × P e
 found_at P b [] some all = absurd (omega arith)
 found_at P b (x ∷ rest) some all = elim (cases_eq x.block b) [
@@ -67,7 +72,8 @@ found_at P b (x ∷ rest) some all = elim (cases_eq x.block b) [
       found_at P b rest (omega arith) all.1)
 ]
 
-module _ (blocks : ℕ) (offered : ℕ → Offer) (items rest : List Entry) (x : Entry) (queue : IsQueue blocks offered items) (same : IsPermutation items (x ∷ rest)) where
+module _ (blocks : ℕ) (offered : ℕ → Offer) (items rest : List Entry) (x : Entry)
+    (queue : IsQueue blocks offered items) (same : IsPermutation items (x ∷ rest)) where
   popped_all : AllByRecursion (IsEntry blocks offered) (x ∷ rest)
   popped_all = all_shuffled (IsEntry blocks offered) items (x ∷ rest) same queue.each
 
@@ -112,16 +118,19 @@ queue_stays blocks offered new b items others away queue = record {
   once = queue.once;
 }
 
-put_queue : (blocks : ℕ) (offered : ℕ → Offer) (e : Entry) (old new : List Entry) → IsEntry blocks offered e
+put_queue : (blocks : ℕ) (offered : ℕ → Offer) (e : Entry) (old new : List Entry)
+    → IsEntry blocks offered e
     → AllByRecursion (λ (f : Entry). ¬ (f.block ≡ e.block)) old → IsQueue blocks offered old
     → IsPermutation (e ∷ old) new → IsQueue blocks offered new
 put_queue blocks offered e old new is away queue same = record {
   each = all_shuffled (IsEntry blocks offered) (e ∷ old) new same (is, queue.each);
   once = λ b.
-      let c : count_at b new ≡ is_at b e + count_at b old = sum_by_pushed (is_at b) e old new same in
+      let c : count_at b new ≡ is_at b e
+          + count_at b old = sum_by_pushed (is_at b) e old new same in
       elim (cases_eq e.block b) [
         | inl own ↦ (let z : count_at b old ≡ 0 =
-            count_none b old (subst (λ k. AllByRecursion (λ (f : Entry). ¬ (f.block ≡ k)) old) own away) in
+            count_none b old (subst (λ k. AllByRecursion (λ (f : Entry). ¬ (f.block ≡ k)) old) own
+                away) in
             let m = at_most_one b e in
             omega arith)
         | inr ne ↦ (let z : is_at b e ≡ 0 = at_other b e ne in let o = queue.once b in omega arith)
@@ -129,12 +138,14 @@ put_queue blocks offered e old new is away queue same = record {
 }
 
 -- an entry of a block that had none is put to the others
-pub refilled_queue : (blocks : ℕ) (offered : ℕ → Offer) (b : ℕ) (o : Offer) (old new : List Entry) → o ≡ offered b
+pub refilled_queue : (blocks : ℕ) (offered : ℕ → Offer) (b : ℕ) (o : Offer) (old new : List Entry)
+    → o ≡ offered b
     → b < blocks → AllByRecursion (λ (e : Entry). ¬ (e.block ≡ b)) old → IsQueue blocks offered old
     → Refilled b o old new → IsQueue blocks offered new
 refilled_queue blocks offered b Nothing old new is inside away queue same = record {
   each = all_shuffled (IsEntry blocks offered) old new same queue.each;
-  once = λ k. (let c : count_at k new ≡ count_at k old = sum_by-IsPermutation (is_at k) old new same in
+  once = λ k. (let c : count_at k new
+      ≡ count_at k old = sum_by-IsPermutation (is_at k) old new same in
       let o = queue.once k in
       omega arith);
 }
@@ -146,14 +157,19 @@ refilled_queue blocks offered b (AtMost bound) old new is inside away queue same
     (record { inside = inside; offer = is; something = tt }) away queue same
 
 -- then it has one, unless it offers nothing
-pub refilled_some : (b k : ℕ) (o : Offer) (old new : List Entry) → Refilled b o old new → count_at k old ≤ count_at k new
-refilled_some b k Nothing old new same = (let c = sum_by-IsPermutation (is_at k) old new same in omega arith)
+pub refilled_some : (b k : ℕ) (o : Offer) (old new : List Entry) → Refilled b o old new
+    → count_at k old ≤ count_at k new
+refilled_some b k Nothing old new same =
+    (let c = sum_by-IsPermutation (is_at k) old new same in omega arith)
 refilled_some b k (Step s) old new same =
-    (let c = sum_by_pushed (is_at k) (record { block = b; offer = Step s }) old new same in omega arith)
+    (let c = sum_by_pushed (is_at k) (record { block = b; offer = Step s }) old new same in omega
+        arith)
 refilled_some b k (AtMost bound) old new same =
-    (let c = sum_by_pushed (is_at k) (record { block = b; offer = AtMost bound }) old new same in omega arith)
+    (let c = sum_by_pushed (is_at k) (record { block = b; offer = AtMost bound }) old new same in
+        omega arith)
 
-pub refilled_own : (b : ℕ) (o : Offer) (left : List HullStep) (old new : List Entry) → IsOffer left o
+pub refilled_own : (b : ℕ) (o : Offer) (left : List HullStep) (old new : List Entry)
+    → IsOffer left o
     → Refilled b o old new → (left ≡ []) ⊎ (1 ≤ count_at b new)
 refilled_own b Nothing left old new is same = inl is
 refilled_own b (Step s) left old new is same =
@@ -168,11 +184,14 @@ refilled_own b (AtMost bound) left old new is same =
     inr (omega arith)
 
 -- the block of the entry that left is looked at again
-pub covers_on : (w : Budgets) (o n : Outcome) (offer : Offer) (items rest new : List Entry) (x : Entry)
+pub covers_on : (w : Budgets) (o n : Outcome) (offer : Offer) (items rest new : List Entry)
+    (x : Entry)
     → Covers w o items → ((b : ℕ) → count_at b rest + is_at b x ≡ count_at b items)
-    → ((b : ℕ) → nearest w n b ≡ None → nearest w o b ≡ None) → ((b : ℕ) → b ≢ x.block → n.left b ≡ o.left b)
+    → ((b : ℕ) → nearest w n b ≡ None → nearest w o b ≡ None)
+        → ((b : ℕ) → b ≢ x.block → n.left b ≡ o.left b)
     → IsOffer (n.left x.block) offer → Refilled x.block offer rest new → Covers w n new
-covers_on w o n offer items rest new x covers counts opens lefts is same b inside is_open = elim (cases_eq b x.block) [
+covers_on w o n offer items rest new x covers counts opens lefts is same b inside is_open = elim
+    (cases_eq b x.block) [
   | inl own ↦ subst (λ k. (n.left k ≡ []) ⊎ (1 ≤ count_at k new)) (sym own)
       (refilled_own x.block offer (n.left x.block) rest new is same)
   | inr ne ↦ elim (covers b inside (opens b is_open)) [
@@ -185,7 +204,8 @@ covers_on w o n offer items rest new x covers counts opens lefts is same b insid
 ]
 
 -- or it is not open
-pub covers_dropped : (w : Budgets) (o : Outcome) (items rest : List Entry) (x : Entry) → Covers w o items
+pub covers_dropped : (w : Budgets) (o : Outcome) (items rest : List Entry) (x : Entry)
+    → Covers w o items
     → ((b : ℕ) → count_at b rest + is_at b x ≡ count_at b items) → ¬ (nearest w o x.block ≡ None)
     → Covers w o rest
 covers_dropped w o items rest x covers counts shut b inside is_open = elim (cases_eq b x.block) [
@@ -204,7 +224,8 @@ first_not_lt Less b e = e
 first_not_lt Equal b e = refl
 first_not_lt Greater b e = e
 
-not_less : (p q : ℕ) (o : Ordering) → MatchOrdering o (p < q) (p ≡ q) (q < p) → is_lt o ≡ false → q ≤ p
+not_less : (p q : ℕ) (o : Ordering) → MatchOrdering o (p < q) (p ≡ q) (q < p) → is_lt o ≡ false → q
+    ≤ p
 not_less p q Less m e = let bad : ⊥ = cc in absurd bad
 not_less p q Equal m e = omega arith
 not_less p q Greater m e = omega arith
@@ -214,14 +235,17 @@ pub as_steep : (x y : Entry) → is_lt (entry_cmp x y) ≡ false
 as_steep x y e =
     let p : ℕ = gain_of x.offer * len_of y.offer in
     let q : ℕ = gain_of y.offer * len_of x.offer in
-    not_less p q (nat_cmp p q) (ranked p q (nat_cmp p q) refl) (first_not_lt (nat_cmp p q) _ (first_not_lt _ _ e))
+    not_less p q (nat_cmp p q) (ranked p q (nat_cmp p q) refl)
+        (first_not_lt (nat_cmp p q) _ (first_not_lt _ _ e))
 
 -- steps that fall are no steeper than the first one
-falls_below : (s : HullStep) (rest : List HullStep) → FallFrom s.gain s.len rest → AllByRecursion (IsAsSteep s) rest
+falls_below : (s : HullStep) (rest : List HullStep) → FallFrom s.gain s.len rest
+    → AllByRecursion (IsAsSteep s) rest
 falls_below s [] fall = tt
 falls_below s (t ∷ rest) fall =
     let here : IsAsSteep s t = omega (arith, fall.0) in
-    (here, all_weaker (IsAsSteep t) (IsAsSteep s) (λ u below. steep_through s t u here below) rest (falls_below t rest fall.1))
+    (here, all_weaker (IsAsSteep t) (IsAsSteep s) (λ u below. steep_through s t u here below) rest
+        (falls_below t rest fall.1))
 
 falls_later : (g n : ℕ) (done left : List HullStep) → FallFrom g n (done ++ left) → IsFalling left
 falls_later g n [] [] fall = tt
@@ -236,42 +260,55 @@ pub head_steepest : (s : HullStep) (left : List HullStep) → IsHead s left → 
     → AllByRecursion (IsAsSteep s) left
 head_steepest s [] head fall = absurd head
 head_steepest s (t ∷ rest) head fall =
-    subst (λ (v : HullStep). AllByRecursion (IsAsSteep v) (t ∷ rest)) head (steep_self t, falls_below t rest fall)
+    subst (λ (v : HullStep). AllByRecursion (IsAsSteep v) (t ∷ rest)) head
+        (steep_self t, falls_below t rest fall)
 
 -- what is at least as steep as an offer is at least as steep as all that is left
-pub above_offer : (s : HullStep) (o : Offer) (left : List HullStep) → IsOffer left o → IsFalling left
+pub above_offer : (s : HullStep) (o : Offer) (left : List HullStep) → IsOffer left o
+    → IsFalling left
     → gain_of o * s.len ≤ s.gain * len_of o → AllByRecursion (IsAsSteep s) left
 above_offer s Nothing left is fall above = subst (AllByRecursion (IsAsSteep s)) (sym is) tt
 above_offer s (Step t) left is fall above =
-    all_weaker (IsAsSteep t) (IsAsSteep s) (λ u below. steep_through s t u above below) left (head_steepest t left is fall)
+    all_weaker (IsAsSteep t) (IsAsSteep s) (λ u below. steep_through s t u above below) left
+        (head_steepest t left is fall)
 above_offer s (AtMost bound) left is fall above =
     all_weaker (IsNoSteeper bound) (IsAsSteep s)
-    (λ u below. steep_by s.gain s.len bound.gain bound.len u.gain u.len bound.longer above below) left is.1
+    (λ u below. steep_by s.gain s.len bound.gain bound.len u.gain u.len bound.longer above below)
+        left is.1
 
 -- THE TOP IS NEXT: a step at the top of the heap is at least as steep as all that open blocks have left
-pub top_steepest : (w : Budgets) (o : Outcome) (offered : ℕ → Offer) (items rest : List Entry) (x : Entry) (s : HullStep)
-    → IsQueue w.blocks offered items → IsPermutation items (x ∷ rest) → IsUpperBound entry_cmp x rest → Covers w o items
+pub top_steepest : (w : Budgets) (o : Outcome) (offered : ℕ → Offer) (items rest : List Entry)
+    (x : Entry) (s : HullStep)
+    → IsQueue w.blocks offered items → IsPermutation items (x ∷ rest)
+        → IsUpperBound entry_cmp x rest → Covers w o items
     → x.offer ≡ Step s → ((b : ℕ) → b < w.blocks → IsOffer (o.left b) (offered b))
     → ((b : ℕ) → b < w.blocks → IsFalling (o.left b))
     → (b : ℕ) → b < w.blocks → nearest w o b ≡ None → AllByRecursion (IsAsSteep s) (o.left b)
-top_steepest w o offered items rest x s queue same upper covers is true_offers falls b inside is_open =
+top_steepest w o offered items rest x s queue same upper covers is true_offers falls b inside
+    is_open =
     elim (cases_eq b x.block) [
       | inl own ↦ (let entry = popped_entry w.blocks offered items rest x queue same in
           let head : IsOffer (o.left b) (Step s) =
-          subst (IsOffer (o.left b)) (ap offered own ∙ sym entry.offer ∙ is) (true_offers b inside) in
+          subst (IsOffer (o.left b)) (ap offered own ∙ sym entry.offer ∙ is) (true_offers b inside)
+              in
           head_steepest s (o.left b) head (falls b inside))
       | inr ne ↦ elim (covers b inside is_open) [
         | inl none ↦ subst (AllByRecursion (IsAsSteep s)) (sym none) tt
         | inr some ↦ (let c = popped_count w.blocks offered items rest x queue same b in
             let z : is_at b x ≡ 0 = at_other b x (λ e. ne (sym e)) in
             let q = popped_queue w.blocks offered items rest x queue same in
-            let f = found_at (λ e. IsEntry w.blocks offered e × (is_lt (entry_cmp x e) ≡ false)) b rest (omega arith)
-            (both_all (IsEntry w.blocks offered) (λ e. is_lt (entry_cmp x e) ≡ false) rest q.each upper) in
-            let slope : gain_of f.0.offer * len_of x.offer ≤ gain_of x.offer * len_of f.0.offer = as_steep x f.0 f.2.1 in
+            let f = found_at (λ e. IsEntry w.blocks offered e × (is_lt (entry_cmp x e) ≡ false)) b
+                rest (omega arith)
+            (both_all (IsEntry w.blocks offered) (λ e. is_lt (entry_cmp x e) ≡ false) rest q.each
+                upper) in
+            let slope : gain_of f.0.offer * len_of x.offer
+                ≤ gain_of x.offer * len_of f.0.offer = as_steep x f.0 f.2.1 in
             let slope_s : gain_of f.0.offer * s.len ≤ s.gain * len_of f.0.offer =
-            subst (λ (p : Offer). gain_of f.0.offer * len_of p ≤ gain_of p * len_of f.0.offer) is slope in
+            subst (λ (p : Offer). gain_of f.0.offer * len_of p ≤ gain_of p * len_of f.0.offer) is
+                slope in
             let own_offer : IsOffer (o.left b) f.0.offer =
-            subst (IsOffer (o.left b)) (ap offered (sym f.1) ∙ sym f.2.0.offer) (true_offers b inside) in
+            subst (IsOffer (o.left b)) (ap offered (sym f.1) ∙ sym f.2.0.offer)
+                (true_offers b inside) in
             above_offer s f.0.offer (o.left b) own_offer (falls b inside) slope_s)
       ]
     ]

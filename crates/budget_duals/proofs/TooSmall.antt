@@ -1,11 +1,11 @@
 -- When a limit is too small.
-use Rattle.std.proofs.Common.{ℕ, zero, suc, ◌≡◌, ◌<◌, ◌≤◌, ◌↔◌, Result, Err, arith, sym, ap, subst, ◌∙◌, refl}
+use Rattle.std.proofs.Common.{ℕ, zero, suc, ◌≡◌, ◌≤◌, ◌↔◌, Result, Err, arith, sym, ap, subst, ◌∙◌, refl}
 use Rattle.cine_nums.specs.declared.budget.Budget.{Budget}
 use Rattle.cine_nums.specs.declared.budget.Budget.TheVariants.{Frame, Inner, C0, C1, C2}
 use Rattle.budget_duals.specs.Frame.{IsTooSmall}
 use Rattle.budget_duals.specs.Held.{held_in, place_of, IsWithin, IsOutermostBroken}
 use Rattle.budget_duals.specs.declared.certificate.AllocateRefusal.{AllocateRefusal}
-use Rattle.budget_duals.specs.declared.certificate.AllocateRefusal.TheVariants.{LimitTooSmall, Memory}
+use Rattle.budget_duals.specs.declared.certificate.AllocateRefusal.TheVariants.{LimitTooSmall}
 use Rattle.budget_duals.specs.declared.certificate.Certificate.{Certificate}
 use Rattle.budget_duals.specs.declared.held.Held.{Held}
 use Rattle.budget_duals.specs.declared.limits.Limits.{Limits}
@@ -26,7 +26,8 @@ at_place C1 = refl
 at_place C2 = refl
 
 -- there is one outermost broken budget at most
-outermost_once : (l : Limits) (h : Held) (a b : Budget) → IsOutermostBroken l h a → IsOutermostBroken l h b → a ≡ b
+outermost_once : (l : Limits) (h : Held) (a b : Budget) → IsOutermostBroken l h a
+    → IsOutermostBroken l h b → a ≡ b
 outermost_once l h a b first second =
     let x : place_of a ≤ place_of b = first.outermost b second.broken in
     let y : place_of b ≤ place_of a = second.outermost a first.broken in
@@ -37,9 +38,11 @@ outermost_once l h a b first second =
 abbrev Answer : Type 0
 Answer = Result Certificate AllocateRefusal
 
-pub too_small_at : (l : Limits) (h : Held) (b : Budget) (n : ℕ) → IsOutermostBroken l h b → n ≡ held_in h b
+pub too_small_at : (l : Limits) (h : Held) (b : Budget) (n : ℕ) → IsOutermostBroken l h b → n
+    ≡ held_in h b
     → (budget : Budget) (needed : ℕ)
-    → ◌≡◌ {A = Answer} (Err (LimitTooSmall b n)) (Err (LimitTooSmall budget needed)) ↔ IsTooSmall l h budget needed
+    → ◌≡◌ {A = Answer} (Err (LimitTooSmall b n)) (Err (LimitTooSmall budget needed)) ↔ IsTooSmall l
+        h budget needed
 too_small_at l h b n out is budget needed = (
   λ e. (let same : b ≡ budget = cc in
   let also : n ≡ needed = cc in
@@ -51,7 +54,8 @@ too_small_at l h b n out is budget needed = (
 
 pub not_too_small : (l : Limits) (h : Held) (r : Answer) → IsWithin l h
     → ((budget : Budget) (needed : ℕ) → r ≡ Err (LimitTooSmall budget needed) → ⊥)
-    → (budget : Budget) (needed : ℕ) → (r ≡ Err (LimitTooSmall budget needed)) ↔ IsTooSmall l h budget needed
+    → (budget : Budget) (needed : ℕ)
+        → (r ≡ Err (LimitTooSmall budget needed)) ↔ IsTooSmall l h budget needed
 not_too_small l h r within other budget needed = (
   λ e. absurd (other budget needed e),
   λ t. absurd (within budget t.0.broken),

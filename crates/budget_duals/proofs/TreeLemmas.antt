@@ -18,7 +18,8 @@ nearer_none : (o : Option Step) (k : ℕ) (later new : Option Closed) → (later
 nearer_none None k later new f e = f e
 nearer_none (Some s) k later new f e = let bad : ⊥ = cc in absurd bad
 
-first_push : (closed : ℕ → Option Step) (l : List ℕ) (j : ℕ) → first closed l ≡ None → closed j ≡ None
+first_push : (closed : ℕ → Option Step) (l : List ℕ) (j : ℕ) → first closed l ≡ None → closed j
+    ≡ None
     → first closed (l ++ j ∷ []) ≡ None
 first_push closed [] j none here = ap (λ c. nearer j c None) here
 first_push closed (k ∷ rest) j none here =
@@ -41,9 +42,11 @@ some_is [] i below = absurd (omega arith)
 some_is (k ∷ rest) zero below = inl refl
 some_is (k ∷ rest) (suc i) below = inr (some_is rest i (omega arith))
 
-pub first_at : (closed : ℕ → Option Step) (l : List ℕ) (i : ℕ) → i < length l → first closed l ≡ None
+pub first_at : (closed : ℕ → Option Step) (l : List ℕ) (i : ℕ) → i < length l → first closed l
+    ≡ None
     → is_some (closed (get_or l i 0)) ≡ false
-first_at closed l i below none = ap is_some (first_none closed (get_or l i 0) l none (some_is l i below))
+first_at closed l i below none = ap is_some
+    (first_none closed (get_or l i 0) l none (some_is l i below))
 
 last_none : (o : Option ℕ) → last_of None o ≡ last_of o None
 last_none None = refl
@@ -57,11 +60,13 @@ outermost_push : (limit held : ℕ → ℕ) (l : List ℕ) (j : ℕ) → outermo
     ≡ last_of (if nat_lt (limit j) (held j) then Some j else None) (outermost limit held l)
 outermost_push limit held [] j = last_none (if nat_lt (limit j) (held j) then Some j else None)
 outermost_push limit held (k ∷ rest) j =
-    ap (λ o. last_of o (if nat_lt (limit k) (held k) then Some k else None)) (outermost_push limit held rest j)
+    ap (λ o. last_of o (if nat_lt (limit k) (held k) then Some k else None))
+        (outermost_push limit held rest j)
     ∙ last_assoc (if nat_lt (limit j) (held j) then Some j else None) (outermost limit held rest)
     (if nat_lt (limit k) (held k) then Some k else None)
 
-broken_is : (limit held j : ℕ) → limit < held → (if nat_lt limit held then Some j else None) ≡ Some j
+broken_is : (limit held j : ℕ) → limit < held → (if nat_lt limit held then Some j else None)
+    ≡ Some j
 broken_is limit held j more = grind (arith, nat_tests)
 
 fine_is : (limit held j : ℕ) → held ≤ limit → (if nat_lt limit held then Some j else None) ≡ None
@@ -72,7 +77,8 @@ pub outermost_more : (limit held : ℕ → ℕ) (l : List ℕ) (i : ℕ) → i <
     (if nat_lt (limit (get_or l i 0)) (held (get_or l i 0)) then Some (get_or l i 0) else None)
     (outermost limit held (take i l))
 outermost_more limit held l i below =
-    ap (outermost limit held) (take_more l i 0 below) ∙ outermost_push limit held (take i l) (get_or l i 0)
+    ap (outermost limit held) (take_more l i 0 below) ∙ outermost_push limit held (take i l)
+        (get_or l i 0)
 
 -- what is found is on the list and holds too much; where nothing is found, none does
 two_ways : (m n : ℕ) → (m < n) ⊎ (n ≤ m)
@@ -88,13 +94,16 @@ none_cases limit held l k None is e = elim (two_ways (limit k) (held k)) [
   | inr fits ↦ (refl, fits)
 ]
 
-pub none_broken : (limit held : ℕ → ℕ) (l : List ℕ) → outermost limit held l ≡ None → (j : ℕ) → IsOn j l
+pub none_broken : (limit held : ℕ → ℕ) (l : List ℕ) → outermost limit held l ≡ None → (j : ℕ)
+    → IsOn j l
     → held j ≤ limit j
 none_broken limit held [] none j on = absurd on
 none_broken limit held (k ∷ rest) none j (inl e) =
-    subst (λ i. held i ≤ limit i) e (none_cases limit held rest k (outermost limit held rest) refl none).1
+    subst (λ i. held i ≤ limit i) e
+        (none_cases limit held rest k (outermost limit held rest) refl none).1
 none_broken limit held (k ∷ rest) none j (inr on) =
-    none_broken limit held rest (none_cases limit held rest k (outermost limit held rest) refl none).0 j on
+    none_broken limit held rest
+        (none_cases limit held rest k (outermost limit held rest) refl none).0 j on
 
 some_cases : (limit held : ℕ → ℕ) (l : List ℕ) (k j : ℕ) (o : Option ℕ) → outermost limit held l ≡ o
     → last_of o (if nat_lt (limit k) (held k) then Some k else None) ≡ Some j
@@ -112,7 +121,8 @@ some_cases limit held l k j None is e = elim (two_ways (limit k) (held k)) [
 pub is_broken : (limit held : ℕ → ℕ) (l : List ℕ) (j : ℕ) → outermost limit held l ≡ Some j
     → IsOn j l × (limit j < held j)
 is_broken limit held [] j some = let bad : ⊥ = cc in absurd bad
-is_broken limit held (k ∷ rest) j some = elim (some_cases limit held rest k j (outermost limit held rest) refl some) [
+is_broken limit held (k ∷ rest) j some = elim
+    (some_cases limit held rest k j (outermost limit held rest) refl some) [
   | inl later ↦ (let h = is_broken limit held rest j later in (inr h.0, h.1))
   | inr here ↦ (inl here.0, subst (λ i. limit i < held i) here.0 here.1)
 ]
@@ -137,14 +147,18 @@ number_past (n ∷ rest) zero past = absurd (omega arith)
 number_past (n ∷ rest) (suc j) past = number_past rest j (omega arith)
 
 -- what is held may be said in two ways
-pub outermost_same : (limit f g : ℕ → ℕ) → ((j : ℕ) → f j ≡ g j) → (l : List ℕ) → outermost limit f l ≡ outermost limit g l
+pub outermost_same : (limit f g : ℕ → ℕ) → ((j : ℕ) → f j ≡ g j) → (l : List ℕ)
+    → outermost limit f l ≡ outermost limit g l
 outermost_same limit f g same [] = refl
 outermost_same limit f g same (j ∷ rest) =
-    ap (λ o. last_of o (if nat_lt (limit j) (f j) then Some j else None)) (outermost_same limit f g same rest)
-    ∙ ap (λ n. last_of (outermost limit g rest) (if nat_lt (limit j) n then Some j else None)) (same j)
+    ap (λ o. last_of o (if nat_lt (limit j) (f j) then Some j else None))
+        (outermost_same limit f g same rest)
+    ∙ ap (λ n. last_of (outermost limit g rest) (if nat_lt (limit j) n then Some j else None))
+        (same j)
 
 pub listed_bytes : (h : Held) (j : ℕ)
-    → number_at (h.frame ∷ h.inner ∷ slice_index_or h.component 0 0 ∷ slice_index_or h.component 1 0 ∷ slice_index_or h.component 2 0 ∷ []) j
+    → number_at (h.frame ∷ h.inner ∷ slice_index_or h.component 0 0 ∷ slice_index_or h.component 1 0
+        ∷ slice_index_or h.component 2 0 ∷ []) j
     ≡ bytes_in h j
 listed_bytes h zero = refl
 listed_bytes h (suc zero) = refl

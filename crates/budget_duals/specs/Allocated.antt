@@ -9,7 +9,8 @@ use Rattle.budget_duals.specs.Tree.{number_at}
 -- A choice beside nested budgets, with a multiplier of each and the gap: each budget is within its limit
 -- and each block has taken the first of its steps (`settled`), the gap bounds every rival, and refused
 -- steps bound the gap (`certificate`).
-pub record IsAllocated (w : Budgets) (steps : ℕ → List Step) (o : Outcome) (numbers : List ℕ) (g : ℕ) : Type 0 where
+pub record IsAllocated (w : Budgets) (steps : ℕ → List Step) (o : Outcome) (numbers : List ℕ)
+    (g : ℕ) : Type 0 where
   pub settled : IsSettled w steps o
   pub certificate : HasCertificate w steps o
   pub long : length numbers ≡ w.number

@@ -1,7 +1,7 @@
 -- What an allocation beside a frame's budgets asks, and what it promises.
 use Rattle.std.specs.Prelude.{ℕ, ◌≡◌, ◌+◌, ◌<◌, ◌≤◌, ◌^◌, List, ◌++◌, length, get_or, Option, None}
 use Rattle.rd_hulls.specs.declared.step.Step.{Step}
-use Rattle.allocation_bound.specs.Ledger.{IsGap, FitsBeside, distortion}
+use Rattle.allocation_bound.specs.Ledger.{IsGap, FitsBeside}
 use Rattle.allocation_bound.specs.Refused.{ledger}
 use Rattle.allocation_bound.specs.Settled.{Budgets, IsSettled, multiplier_of, block_rate}
 use Rattle.allocation_bound.specs.Steps.{cost, gains, lens}
@@ -16,7 +16,8 @@ use Rattle.budget_duals.specs.declared.limits.Limits.{Limits}
 use Rattle.budget_duals.specs.declared.members.Members.{Members}
 
 -- The limits, the choice of no passes, and the steps that each block has.
-pub record IsReady (limits : Limits) (highest counts : List ℕ) (inside : ℕ → Members) (held : List ℕ → Held)
+pub record IsReady (limits : Limits) (highest counts : List ℕ) (inside : ℕ → Members)
+    (held : List ℕ → Held)
     (steps : ℕ → List Step) (start : ℕ) : Type 0 where
   pub unpassed : (b : ℕ) → b < length highest → get_or counts b 0 ≡ 0
   -- The steps of a block follow on from no passes, fall strictly in slope, and lead to no count above the

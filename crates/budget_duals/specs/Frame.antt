@@ -1,6 +1,6 @@
 -- The five byte budgets of a frame, one around the other (DCI Digital Cinema System Specification,
 -- section 4), and the steps that they refuse.
-use Rattle.std.specs.Prelude.{ℕ, false, true, ◌≡◌, ◌+◌, ◌<◌, ◌≤◌, ◌^◌, ◌==◌, if◌then◌else◌}
+use Rattle.std.specs.Prelude.{ℕ, false, true, ◌≡◌, ◌<◌, ◌≤◌, ◌^◌, ◌==◌, if◌then◌else◌}
 use Rattle.std.specs.Prelude.{List, [], ◌∷◌, ◌++◌, get_or, slice_index_or, Option, Some, None}
 use Rattle.cine_nums.specs.declared.budget.Budget.{Budget}
 use Rattle.cine_nums.specs.declared.budget.Budget.TheVariants.{Frame, Inner, C0, C1, C2}
@@ -45,7 +45,8 @@ frame_budgets limits blocks inside held = record {
 
 -- the outermost budget that holds more than its limit, and what it holds
 abbrev pub IsTooSmall : Limits → Held → Budget → ℕ → Type 0
-IsTooSmall limits held budget needed = IsOutermostBroken limits held budget × (needed ≡ held_in held budget)
+IsTooSmall limits held budget needed = IsOutermostBroken limits held budget
+    × (needed ≡ held_in held budget)
 
 -- each limit is below 2^22 bytes
 abbrev pub AreLow : Limits → Type 0

@@ -10,7 +10,8 @@ use Rattle.budget_duals.specs.Queue.{IsQueue, Covers}
 use Rattle.budget_duals.specs.Walking.{Walks}
 
 -- The walk stands, and the heap has what each open block offers that has a step left.
-pub record IsGoing (w : Budgets) (steps : ℕ → List Step) (o : Outcome) (offered : ℕ → Offer) (items : List Entry) : Type 0 where
+pub record IsGoing (w : Budgets) (steps : ℕ → List Step) (o : Outcome) (offered : ℕ → Offer)
+    (items : List Entry) : Type 0 where
   pub walks : Walks w steps o
   pub queue : IsQueue w.blocks offered items
   pub covers : Covers w o items

@@ -7,8 +7,10 @@ use Rattle.budget_duals.specs.Held.{place_of}
 use Rattle.budget_duals.specs.Tree.{closed_by, number_at}
 use Rattle.budget_duals.specs.declared.certificate.RefusedStep.{RefusedStep}
 
-abbrev pub refused_listed : (List ℕ → ℕ → ℕ) → List ℕ → List ℕ → List (Option Step) → Budget → List RefusedStep
+abbrev pub refused_listed : (List ℕ → ℕ → ℕ) → List ℕ → List ℕ → List (Option Step) → Budget
+    → List RefusedStep
 refused_listed held counts multipliers closed budget =
     refused_one budget (number_at multipliers (place_of budget))
-    (λ s. held (set counts s.block s.to) (place_of budget) - (held counts (place_of budget) + s.len))
+    (λ s. held (set counts s.block s.to) (place_of budget) -
+        (held counts (place_of budget) + s.len))
     (closed_by closed (place_of budget))

@@ -34,7 +34,8 @@ pub record IsQueue (blocks : ℕ) (offered : ℕ → Offer) (items : List Entry)
 
 -- each open block that has a step left has an entry
 abbrev pub Covers : Budgets → Outcome → List Entry → Type 0
-Covers w o items = (b : ℕ) → b < w.blocks → nearest w o b ≡ None → (o.left b ≡ []) ⊎ (1 ≤ count_at b items)
+Covers w o items = (b : ℕ) → b < w.blocks → nearest w o b ≡ None
+    → (o.left b ≡ []) ⊎ (1 ≤ count_at b items)
 
 -- an entry of a block is put to the others, where the block offers something
 abbrev pub put_entry : ℕ → Offer → List Entry → List Entry

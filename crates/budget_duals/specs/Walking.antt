@@ -11,7 +11,8 @@ use Rattle.budget_duals.specs.Tree.{closed_by}
 
 -- what a walk has so far: counts, steps taken and left, and the steps that closed budgets
 abbrev pub so_far : List ℕ → (ℕ → List Step) → (ℕ → List Step) → List (Option Step) → Outcome
-so_far counts done left closed = record { counts = counts; done = done; left = left; closed = closed_by closed }
+so_far counts done left closed = record
+    { counts = counts; done = done; left = left; closed = closed_by closed }
 
 -- the walk stands, whatever step was looked at last
 abbrev pub Walks : Budgets → (ℕ → List Step) → Outcome → Type 0
@@ -26,7 +27,8 @@ IsNextStep w o s = (rest : List Step) × IsNext w o s rest
 pub record CanWalk (most : List ℕ) (steps : ℕ → List Step) : Type 0 where
   pub follow : (b : ℕ) → b < length most → FollowOn 0 (steps b)
   pub fall : (b : ℕ) → b < length most → IsFalling (steps b)
-  pub to : (b : ℕ) → b < length most → AllByRecursion (λ (s : Step). s.to ≤ get_or most b 0) (steps b)
+  pub to : (b : ℕ) → b < length most
+      → AllByRecursion (λ (s : Step). s.to ≤ get_or most b 0) (steps b)
 
 -- how many budgets are open
 abbrev pub is_none : Option Step → ℕ
@@ -38,4 +40,5 @@ open_count closed = total is_none closed
 
 -- What is still ahead of a walk: the steps left, the open budgets, and what is unknown of blocks.
 abbrev pub ahead : ℕ → (ℕ → List Step) → List (Option Step) → (ℕ → ℕ) → ℕ
-ahead blocks left closed unknown = upto blocks (λ b. length (left b)) + open_count closed + upto blocks unknown
+ahead blocks left closed unknown = upto blocks (λ b. length (left b)) + open_count closed
+    + upto blocks unknown

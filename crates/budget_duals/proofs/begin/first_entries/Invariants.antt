@@ -7,7 +7,8 @@ use Rattle.budget_duals.proofs.begin.first_entries.Given as goal
 
 abbrev pub invariant-loop-block : goal.invariant-loop-block
 invariant-loop-block g l = record {
-  begun : IsBegun (g.O.Offers.blocks l.offers) (g.O.Offers.left l.offers) (g.O.Offers.offered l.offers) l.block (heap_items l.heap);
+  begun : IsBegun (g.O.Offers.blocks l.offers) (g.O.Offers.left l.offers)
+      (g.O.Offers.offered l.offers) l.block (heap_items l.heap);
   order : IsHeap entry_cmp (heap_items l.heap);
   few : heap_len l.heap ≤ l.block;
   room : g.O.Offers.blocks l.offers ≤ heap_capacity l.heap;

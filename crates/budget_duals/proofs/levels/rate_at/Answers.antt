@@ -1,6 +1,6 @@
 -- The budgets around have numbers below the tree's.
 use Rattle.std.specs.Borrow.{Bor}
-use Rattle.std.proofs.Common.{subst, sym, ℕ, ◌<◌, length, [], List, slice_index_or}
+use Rattle.std.proofs.Common.{subst, sym, ℕ, ◌<◌, [], List, slice_index_or}
 use Rattle.std.specs.List.{AllByRecursion}
 use Rattle.budget_duals.proofs.TreeLemmas.{row_below}
 use Rattle.budget_duals.proofs.levels.rate_at.Goals as goal

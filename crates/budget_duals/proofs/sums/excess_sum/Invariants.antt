@@ -11,5 +11,7 @@ invariant-loop-block g l = record {
   done : g.O.Offers.done l.offers ≡ g.O.Offers.done l.fn.offers;
   left : g.O.Offers.left l.offers ≡ g.O.Offers.left l.fn.offers;
   keeps : g.O.Offers.stays l.fn.offers l.offers;
-  sum : l.sum ≡ upto l.block (λ b. excess (rate_by l.tree l.closed (g.H.Holdings.node_of l.held) b) (g.O.Offers.left l.fn.offers b));
+  sum : l.sum ≡ upto l.block
+      (λ b. excess (rate_by l.tree l.closed (g.H.Holdings.node_of l.held) b)
+          (g.O.Offers.left l.fn.offers b));
 }

@@ -7,5 +7,6 @@ use Rattle.budget_duals.proofs.sums.set_multipliers.Given as goal
 abbrev pub invariant-loop-j : goal.invariant-loop-j
 invariant-loop-j l = record {
   len : length l.out ≡ length l.fn.out;
-  each : (j : ℕ) → j < l.j → number_at l.out j ≡ multiplier (around_in l.tree) (closed_by l.closed) j;
+  each : (j : ℕ) → j < l.j → number_at l.out j
+      ≡ multiplier (around_in l.tree) (closed_by l.closed) j;
 }

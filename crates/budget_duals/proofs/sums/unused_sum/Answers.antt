@@ -1,5 +1,5 @@
 -- Each budget adds at most 2^121.
-use Rattle.std.proofs.Common.{ℕ, ◌+◌, ◌-◌, ◌*◌, ◌<◌, ◌≤◌, ◌≡◌, ◌^◌, length, arith, subst, sym}
+use Rattle.std.proofs.Common.{ℕ, ◌-◌, ◌*◌, ◌<◌, ◌≤◌, ◌≡◌, ◌^◌, length, arith, subst}
 use Rattle.allocation_bound.specs.Sums.{upto}
 use Rattle.budget_duals.specs.Tree.{limit_at, number_at}
 use Rattle.budget_duals.proofs.SumLemmas.{product_fits, worth_fits, upto_small}
@@ -19,7 +19,8 @@ overflow_add-sum g c =
     product_fits (m k) c.saturating_sub-unused.result (c.requires.small k inside) (omega arith) in
     let before : upto k (λ j. m j * (limit j - held j)) ≤ k * 2 ^ 121 =
     upto_small k (λ j. m j * (limit j - held j))
-    (λ j lt. worth_fits (m j) (limit j) (held j) (c.requires.small j (omega arith)) (c.requires.limits j (omega arith))) in
+    (λ j lt. worth_fits (m j) (limit j) (held j) (c.requires.small j (omega arith))
+        (c.requires.limits j (omega arith))) in
     let sum : c.loop-j.sum ≡ upto k (λ j. m j * (limit j - held j)) = c.loop-j.invariant in
     let hundred = c.requires.few in
     omega arith
@@ -36,7 +37,8 @@ returns-clause-small g c =
     let within : k ≤ n = subst (λ i. k ≤ i) c.requires.multipliers upto_end in
     let before : upto k (λ j. m j * (limit j - held j)) ≤ k * 2 ^ 121 =
     upto_small k (λ j. m j * (limit j - held j))
-    (λ j lt. worth_fits (m j) (limit j) (held j) (c.requires.small j (omega arith)) (c.requires.limits j (omega arith))) in
+    (λ j lt. worth_fits (m j) (limit j) (held j) (c.requires.small j (omega arith))
+        (c.requires.limits j (omega arith))) in
     let sum : c.loop-j.sum ≡ upto k (λ j. m j * (limit j - held j)) = c.loop-j.invariant in
     let hundred = c.requires.few in
     omega arith
