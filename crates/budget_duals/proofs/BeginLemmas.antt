@@ -18,32 +18,36 @@ pub begun_none : (blocks : ℕ) (left : ℕ → List HullStep) (offered : ℕ �
     → IsBegun blocks left offered 0 items
 begun_none blocks left offered items none = subst (IsBegun blocks left offered 0) (sym none)
     (record {
-  queue = record { each = tt; once = λ b. omega arith };
-  covers = λ b below. absurd (omega arith);
-  below = tt;
-})
+      queue = record { each = tt; once = λ b. omega arith };
+      covers = λ b below. absurd (omega arith);
+      below = tt;
+    })
 
 put_below : (k : ℕ) (o : Offer) (old : List Entry) → AllByRecursion (λ (e : Entry). e.block < k) old
     → AllByRecursion (λ (e : Entry). e.block < k + 1) (put_entry k o old)
 put_below k Nothing old all = all_weaker (λ (e : Entry). e.block < k)
     (λ (e : Entry). e.block < k + 1) (λ e below. omega arith) old all
-put_below k (Step s) old all =
-    (omega arith, all_weaker (λ (e : Entry). e.block < k) (λ (e : Entry). e.block < k + 1)
-        (λ e below. omega arith) old all)
-put_below k (AtMost bound) old all =
-    (omega arith, all_weaker (λ (e : Entry). e.block < k) (λ (e : Entry). e.block < k + 1)
-        (λ e below. omega arith) old all)
+put_below k (Step s) old all = (
+  omega arith,
+  all_weaker (λ (e : Entry). e.block < k) (λ (e : Entry). e.block < k + 1)
+      (λ e below. omega arith) old all,
+)
+put_below k (AtMost bound) old all = (
+  omega arith,
+  all_weaker (λ (e : Entry). e.block < k) (λ (e : Entry). e.block < k + 1)
+      (λ e below. omega arith) old all,
+)
 
 pub begun_more : (blocks : ℕ) (left : ℕ → List HullStep) (offered : ℕ → Offer) (k : ℕ)
     (old new : List Entry) → k < blocks
     → IsOffer (left k) (offered k) → IsBegun blocks left offered k old
-        → Refilled k (offered k) old new
+    → Refilled k (offered k) old new
     → IsBegun blocks left offered (k + 1) new
 begun_more blocks left offered k old new inside is begun refilled = record {
   queue = refilled_queue blocks offered k (offered k) old new refl inside
       (all_weaker (λ (e : Entry). e.block < k) (λ (e : Entry). ¬ (e.block ≡ k))
       (λ e below same. (let at : e.block ≡ k = same in omega arith)) old begun.below) begun.queue
-          refilled;
+      refilled;
   covers = λ b below. elim (cases_eq b k) [
     | inl e ↦ subst (λ i. (left i ≡ []) ⊎ (1 ≤ count_at i new)) (sym e)
         (refilled_own k (offered k) (left k) old new is refilled)

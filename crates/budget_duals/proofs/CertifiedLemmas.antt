@@ -45,7 +45,7 @@ can_take_refused w steps o most settled certificate long can j s e =
       to = at_head (λ (t : Step). t.to ≤ get_or most b 0) s (o.left b) (settled.kept.heads j s e)
           (all_after (λ (t : Step). t.to ≤ get_or most b 0) (o.done b) (o.left b)
           (subst (AllByRecursion (λ (t : Step). t.to ≤ get_or most b 0))
-              (sym (settled.kept.splits b inside)) (can.to b below)));
+          (sym (settled.kept.splits b inside)) (can.to b below)));
     }
 
 -- what was taken gains no more than all steps
@@ -54,18 +54,18 @@ pub taken_gains : (w : Budgets) (steps : ℕ → List Step) (o : Outcome) → Is
 taken_gains w steps o settled =
     upto_le w.blocks (λ b. gains (o.done b)) (λ b. gains (steps b))
     (λ b inside. subst (λ (l : List Step). gains (o.done b) ≤ gains l)
-        (settled.kept.splits b inside)
+    (settled.kept.splits b inside)
     (let e : gains (o.done b ++ o.left b) ≡ gains (o.done b)
-        + gains (o.left b) = gains_append (o.done b) (o.left b) in omega arith))
+    + gains (o.left b) = gains_append (o.done b) (o.left b) in omega arith))
 
 total_append : (xs ys : List RefusedStep)
     → total (λ (r : RefusedStep). r.price) (xs ++ ys) ≡ total (λ (r : RefusedStep). r.price) xs
-        + total (λ (r : RefusedStep). r.price) ys
+    + total (λ (r : RefusedStep). r.price) ys
 total_append [] ys = omega arith
 total_append (x ∷ xs) ys =
     let h : total (λ (r : RefusedStep). r.price) (xs ++ ys)
     ≡ total (λ (r : RefusedStep). r.price) xs
-        + total (λ (r : RefusedStep). r.price) ys = total_append xs ys in
+    + total (λ (r : RefusedStep). r.price) ys = total_append xs ys in
     omega arith
 
 none_or_none : (test : Bool) (n : ℕ) → n ≡ (if test then n else n)
@@ -74,17 +74,17 @@ none_or_none false n = refl
 
 one_or_none : (test : Bool) (r : RefusedStep)
     → total (λ (x : RefusedStep). x.price) (if test then [] else r ∷ [])
-        ≡ (if test then 0 else r.price)
+    ≡ (if test then 0 else r.price)
 one_or_none true r = refl
 one_or_none false r = omega arith
 
 -- the prices that a budget lists
 listed_price : (w : Budgets) (o : Outcome) (budget : Budget) (closed : Option Step)
     → total (λ (r : RefusedStep). r.price)
-        (refused_one budget (multiplier_of w o (place_of budget))
-            (λ s. grow w o s (place_of budget)) closed)
+    (refused_one budget (multiplier_of w o (place_of budget))
+    (λ s. grow w o s (place_of budget)) closed)
     ≡ (if multiplier_of w o (place_of budget) == 0 then 0 else refused_price w o closed
-        (place_of budget))
+    (place_of budget))
 listed_price w o budget None = none_or_none (multiplier_of w o (place_of budget) == 0) 0
 listed_price w o budget (Some s) = one_or_none (multiplier_of w o (place_of budget) == 0) (record {
   budget = budget;
@@ -101,22 +101,22 @@ prices_are : (w : Budgets) (o : Outcome)
     → total (λ (r : RefusedStep). r.price) (refused_steps w o) ≡ upto 5 (price_at w o)
 prices_are w o =
     let a : total (λ (r : RefusedStep). r.price) (refused_by w o Frame)
-        ≡ price_at w o 0 = price_of_one w o Frame in
+    ≡ price_at w o 0 = price_of_one w o Frame in
     let b : total (λ (r : RefusedStep). r.price) (refused_by w o Inner)
-        ≡ price_at w o 1 = price_of_one w o Inner in
+    ≡ price_at w o 1 = price_of_one w o Inner in
     let c : total (λ (r : RefusedStep). r.price) (refused_by w o C0)
-        ≡ price_at w o 2 = price_of_one w o C0 in
+    ≡ price_at w o 2 = price_of_one w o C0 in
     let d : total (λ (r : RefusedStep). r.price) (refused_by w o C1)
-        ≡ price_at w o 3 = price_of_one w o C1 in
+    ≡ price_at w o 3 = price_of_one w o C1 in
     let e : total (λ (r : RefusedStep). r.price) (refused_by w o C2)
-        ≡ price_at w o 4 = price_of_one w o C2 in
+    ≡ price_at w o 4 = price_of_one w o C2 in
     let ab = total_append (refused_by w o Frame) (refused_by w o Inner) in
     let abc = total_append (refused_by w o Frame ++ refused_by w o Inner) (refused_by w o C0) in
     let abcd = total_append (refused_by w o Frame ++ refused_by w o Inner ++ refused_by w o C0)
-        (refused_by w o C1) in
+    (refused_by w o C1) in
     let abcde = total_append
-        (refused_by w o Frame ++ refused_by w o Inner ++ refused_by w o C0 ++ refused_by w o C1)
-            (refused_by w o C2) in
+    (refused_by w o Frame ++ refused_by w o Inner ++ refused_by w o C0 ++ refused_by w o C1)
+    (refused_by w o C2) in
     omega arith
 
 five_same : (a b c d e p q r s t : List RefusedStep) → a ≡ p → b ≡ q → c ≡ r → d ≡ s → e ≡ t
@@ -128,10 +128,10 @@ chosen_by x b c l s n over least less = omega arith
 
 pub certified_frame : (limits : Limits) (blocks : ℕ) (inside : ℕ → Members) (held : List ℕ → Held)
     (steps : ℕ → List Step) (counts : List ℕ) (done left : ℕ → List Step)
-        (closed : List (Option Step))
+    (closed : List (Option Step))
     (numbers : List ℕ) (gap start : ℕ) (c : Certificate)
     → IsAllocated (frame_budgets limits blocks inside held) steps (so_far counts done left closed)
-        numbers gap
+    numbers gap
     → upto blocks (λ b. lens (steps b)) < 2 ^ 32
     → ((j : ℕ) → j < 5 → number_at c.multipliers j ≡ number_at numbers j)
     → c.gap ≡ gap → c.distortion + upto blocks (λ b. gains (done b)) ≡ start
@@ -149,19 +149,19 @@ certified_frame limits blocks inside held steps counts done left closed numbers 
     let certificate : HasCertificate w steps o = allocated.certificate in
     let is_gap : IsGap (ledger w steps o) c.gap =
     subst (λ (n : ℕ). IsGap (ledger w steps o) n) (sym (same_gap ∙ allocated.gap)) certificate.gap
-        in
+    in
     let one : (budget : Budget) → place_of budget < 5
     → refused_listed (λ k j. bytes_in (held k) j) counts numbers closed budget
-        ≡ refused_by w o budget =
+    ≡ refused_by w o budget =
     λ budget below. ap (λ m. refused_one budget m (λ s. grow w o s (place_of budget))
-        (closed_by closed (place_of budget)))
+    (closed_by closed (place_of budget)))
     (allocated.multipliers (place_of budget) below) in
     let refused : c.refused.items ≡ refused_steps w o = listed
     ∙ five_same _ _ _ _ _ _ _ _ _ _ (one Frame (omega arith)) (one Inner (omega arith))
-        (one C0 (omega arith))
+    (one C0 (omega arith))
     (one C1 (omega arith)) (one C2 (omega arith)) in
     let fewer : upto blocks (λ b. lens (left b))
-        ≤ upto blocks (λ b. lens (steps b)) = left_bytes w steps o settled in
+    ≤ upto blocks (λ b. lens (steps b)) = left_bytes w steps o settled in
     let few : upto blocks (λ b. lens (left b)) ≤ scale * 1 = omega arith in
     let below : c.gap ≤ upto 5 (price_at w o) + 1 = certificate.below_prices 1 c.gap few is_gap in
     let prices : total (λ (r : RefusedStep). r.price) c.refused.items ≡ upto 5 (price_at w o) =
@@ -176,14 +176,14 @@ certified_frame limits blocks inside held steps counts done left closed numbers 
           chosen_by (cost (block_rate w o b) (done b) (left b)) (best (block_rate w o b) (steps b))
           (cost (block_rate w o b) taken rest) (lens (left b)) (lens (steps b)) (length (left b))
           (subst (λ (l : List Step). cost (block_rate w o b) (done b) (left b) + length (left b)
-              ≤ best (block_rate w o b) l + lens (left b))
+          ≤ best (block_rate w o b) l + lens (left b))
           (settled.kept.splits b lt)
-              (excess_over_prefixes (block_rate w o b) (done b) (left b) (certificate.agree b lt)))
+          (excess_over_prefixes (block_rate w o b) (done b) (left b) (certificate.agree b lt)))
           (subst (λ (l : List Step). best (block_rate w o b) l ≤ cost (block_rate w o b) taken rest)
-              split
+          split
           (best_is_least (block_rate w o b) taken rest))
           (subst (λ (l : List Step). lens (left b) ≤ lens l) (settled.kept.splits b lt)
-              (lens_after (done b) (left b)));
+          (lens_after (done b) (left b)));
       distortion = distortion;
       refused = refused;
       below_prices = omega arith;

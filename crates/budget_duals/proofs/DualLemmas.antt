@@ -23,7 +23,7 @@ pub walk_begins : (w : Budgets) (counts : List ℕ) (done left : ℕ → List St
     (closed : List (Option Step))
     → ((j : ℕ) → closed_by closed j ≡ None) → length counts ≡ w.blocks
     → ((j : ℕ) → j < w.number → w.held counts j ≤ w.limit j)
-        → ((b : ℕ) → b < w.blocks → get_or counts b 0 ≡ 0)
+    → ((b : ℕ) → b < w.blocks → get_or counts b 0 ≡ 0)
     → ((b : ℕ) → b < w.blocks → done b ≡ []) → Walks w left (so_far counts done left closed)
 walk_begins w counts done left closed opens long within zeros none =
     let start : IsStart w left (so_far counts done left closed) = record {
@@ -45,7 +45,7 @@ are_steps most blocks steps same can = record {
 pub agrees_at : (w : Budgets) (steps : ℕ → List Step) (o : Outcome) → AreBudgets w
     → AreSteps w.blocks steps → IsSettled w steps o
     → (b : ℕ) → b < w.blocks
-        → Agrees (base o.closed (chain w.around (w.node b))) (o.done b) (o.left b)
+    → Agrees (base o.closed (chain w.around (w.node b))) (o.done b) (o.left b)
 agrees_at w steps o budgets are settled b inside =
     subst (λ m. Agrees m (o.done b) (o.left b)) (block_rate_is w budgets steps o settled b)
     ((certified w steps o budgets are settled).agree b inside)
@@ -67,21 +67,21 @@ multiplier_small around closed j = above_small (closed j) (base closed (around j
 pub allocated : (w : Budgets) (steps : ℕ → List Step) (o : Outcome) (numbers : List ℕ) (g : ℕ)
     → AreBudgets w → AreSteps w.blocks steps
     → IsSettled w steps o → length numbers ≡ w.number
-        → ((j : ℕ) → j < w.number → number_at numbers j ≡ multiplier_of w o j)
+    → ((j : ℕ) → j < w.number → number_at numbers j ≡ multiplier_of w o j)
     → g ≡ rounded_up (upto w.blocks
-        (λ b. excess (base o.closed (chain w.around (w.node b))) (o.left b))
+    (λ b. excess (base o.closed (chain w.around (w.node b))) (o.left b))
     + upto w.number (λ j. number_at numbers j * (w.limit j - w.held o.counts j)))
     → IsAllocated w steps o numbers g
 allocated w steps o numbers g budgets are settled long same is =
     let over : upto w.blocks (λ b. excess (base o.closed (chain w.around (w.node b))) (o.left b))
     ≡ upto w.blocks (λ b. excess (block_rate w o b) (o.left b)) =
     upto_same w.blocks (λ b. excess (base o.closed (chain w.around (w.node b))) (o.left b))
-        (λ b. excess (block_rate w o b) (o.left b))
+    (λ b. excess (block_rate w o b) (o.left b))
     (λ b inside. ap (λ m. excess m (o.left b)) (sym (block_rate_is w budgets steps o settled b))) in
     let unused : upto w.number (λ j. number_at numbers j * (w.limit j - w.held o.counts j))
     ≡ upto w.number (λ j. multiplier_of w o j * slack w o j) =
     upto_same w.number (λ j. number_at numbers j * (w.limit j - w.held o.counts j))
-        (λ j. multiplier_of w o j * slack w o j)
+    (λ j. multiplier_of w o j * slack w o j)
     (λ j inside. ap (λ m. m * slack w o j) (same j inside)) in
     record {
       settled = settled;
@@ -91,7 +91,7 @@ allocated w steps o numbers g budgets are settled long same is =
       gap = is ∙ (ap (λ x. rounded_up
           (x + upto w.number (λ j. number_at numbers j * (w.limit j - w.held o.counts j)))) over
           ∙ ap (λ x. rounded_up (upto w.blocks (λ b. excess (block_rate w o b) (o.left b)) + x))
-              unused);
+          unused);
     }
 
 pub lens_after : (done left : List Step) → lens left ≤ lens (done ++ left)
@@ -105,4 +105,4 @@ pub left_bytes : (w : Budgets) (steps : ℕ → List Step) (o : Outcome) → IsS
 left_bytes w steps o settled =
     upto_le w.blocks (λ b. lens (o.left b)) (λ b. lens (steps b))
     (λ b inside. subst (λ (l : List Step). lens (o.left b) ≤ lens l) (settled.kept.splits b inside)
-        (lens_after (o.done b) (o.left b)))
+    (lens_after (o.done b) (o.left b)))

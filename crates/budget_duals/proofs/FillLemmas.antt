@@ -41,13 +41,13 @@ short_steps_of b (s ∷ rest) = short_filtered (s.block == b) s (steps_of b rest
 pub begun_rows : (rows : List (List HullStep)) (places : List ℕ) (steps : List HullStep) → places
     ≡ replicate (length rows) 0
     → ((b : ℕ) → b < length rows → list_at rows b ≡ steps_of b steps) → length steps < 2 ^ 32
-        → length rows < 2 ^ 32 → AreRows rows places
+    → length rows < 2 ^ 32 → AreRows rows places
 begun_rows rows places steps zeros filled few blocks = record {
   few = blocks;
   many = ap length zeros ∙ length-replicate (length rows) 0;
   within = λ b below. subst (λ (n : ℕ). n ≤ length (list_at rows b))
       (sym (ap (λ (l : List ℕ). get_or l b 0) zeros ∙ get_or-replicate (length rows) b 0 0 below))
-          (omega arith);
+      (omega arith);
   own = λ b below. subst (HasBlock b) (sym (filled b below)) (own_steps_of b steps);
   short = λ b below. omega (arith, ap length (filled b below), short_steps_of b steps);
 }
@@ -79,10 +79,10 @@ steps_next b steps i s below is = sym
 pub fill_more : (rows : List (List HullStep)) (steps : List HullStep) (i : ℕ) (s : HullStep)
     (old : List HullStep)
     → i < length steps → s ≡ get_or steps i s → s.block < length rows → old
-        ≡ get_or rows s.block old
+    ≡ get_or rows s.block old
     → ((b : ℕ) → b < length rows → list_at rows b ≡ steps_of b (take i steps))
     → (b : ℕ) → b < length rows → list_at (set rows s.block (old ++ s ∷ [])) b
-        ≡ steps_of b (take (i + 1) steps)
+    ≡ steps_of b (take (i + 1) steps)
 fill_more rows steps i s old below is inside was filled b in_range = elim (decided s.block b) [
   | inl p ↦ subst (λ (k : ℕ). get_or (set rows s.block (old ++ s ∷ [])) k []
       ≡ steps_of b (take (i + 1) steps)) p.1
@@ -90,7 +90,7 @@ fill_more rows steps i s old below is inside was filled b in_range = elim (decid
       ∙ (put_one (s.block == b) old s p.0
       ∙ (ap (λ (l : List HullStep). l ++ cond (s.block == b) (s ∷ []) [])
       (was ∙ (some_default rows s.block old [] inside ∙
-          (filled s.block inside ∙ ap (λ (k : ℕ). steps_of k (take i steps)) p.1)))
+      (filled s.block inside ∙ ap (λ (k : ℕ). steps_of k (take i steps)) p.1)))
       ∙ steps_next b steps i s below is)))
   | inr p ↦ (let other : b ≢ s.block = λ e. p.1 (sym e) in
       get_or-set_other rows s.block b (old ++ s ∷ []) [] other

@@ -33,7 +33,7 @@ nested_each (Some n) (suc (suc (suc (suc (suc j))))) = tt
 abbrev IsOnChain : Option ℕ → Option ℕ → Bool → ℕ → Type 0
 IsOnChain limit component inner j =
     IsOn j (chain (λ i. get_or (around_each limit) i [])
-        (node_by component (if inner then 1 else 0)))
+    (node_by component (if inner then 1 else 0)))
 
 frame_on : (limit component : Option ℕ) (inner : Bool) → ((c : ℕ) → component ≡ Some c → c ≤ 2)
     → IsOnChain limit component inner 0
@@ -72,7 +72,7 @@ inner_on (Some n) (Some (suc (suc (suc c)))) true small none is =
 on_chain : (limit component : Option ℕ) (inner : Bool) (b : Budget)
     → ((c : ℕ) → component ≡ Some c → c ≤ 2)
     → (limit ≡ None → inner ≡ false)
-        → IsTrue (is_in (record { inner = inner; component = component }) b)
+    → IsTrue (is_in (record { inner = inner; component = component }) b)
     → IsOnChain limit component inner (place_of b)
 on_chain limit component inner Frame small none is = frame_on limit component inner small
 on_chain limit component inner Inner small none is = inner_on limit component inner small none is
@@ -103,11 +103,11 @@ module _ (limits : Limits) (blocks : ℕ) (inside : ℕ → Members) (held : Lis
     (are : (b : ℕ) → b < blocks → AreMembers limits.inner (inside b)) where
   same_elsewhere : (c : List ℕ) (b to : ℕ) (j : Budget) → length c ≡ blocks → b < blocks
       → ¬ IsOn (place_of j)
-          (chain (λ i. get_or (around_each limits.inner) i []) (node_in (inside b)))
+      (chain (λ i. get_or (around_each limits.inner) i []) (node_in (inside b)))
       → held_in (held (set c b to)) j ≡ held_in (held c) j
   same_elsewhere c b to j long below off = law.elsewhere c b to j long below
       (λ is. off (on_chain limits.inner (inside b).component (inside b).inner j
-          (are b below).component (are b below).none is))
+      (are b below).component (are b below).none is))
 
   elsewhere_by : (c : List ℕ) (b to j : ℕ) → length c ≡ blocks → b < blocks
       → ¬ IsOn j (chain (λ i. get_or (around_each limits.inner) i []) (node_in (inside b)))
@@ -123,9 +123,9 @@ module _ (limits : Limits) (blocks : ℕ) (inside : ℕ → Members) (held : Lis
 
   depends_by : (c d : List ℕ) (b to j : ℕ) → length c ≡ blocks → length d ≡ blocks → b < blocks
       → ((x : ℕ) → x < blocks → node_in (inside x) ≡ node_in (inside b) → get_or d x 0
-          ≡ get_or c x 0)
+      ≡ get_or c x 0)
       → bytes_in (held (set d b to)) j + bytes_in (held c) j ≡ bytes_in (held (set c b to)) j
-          + bytes_in (held d) j
+      + bytes_in (held d) j
   depends_by c d b to zero long also below same = law.depends c d b to Frame long also below
       (λ x in_range e. same x in_range (ap node_in e))
   depends_by c d b to (suc zero) long also below same = law.depends c d b to Inner long also below
@@ -169,13 +169,13 @@ within_each limits held within none (suc zero) below = inner_within limits.inner
     (λ n is more. within Inner (n, is, more)) none
 within_each limits held within none (suc (suc zero)) below =
     not_broken (limit_in limits C0) (held_in held C0) (λ n is more. within C0 (n, is, more))
-        (slice_index_or limits.component 0 0) refl
+    (slice_index_or limits.component 0 0) refl
 within_each limits held within none (suc (suc (suc zero))) below =
     not_broken (limit_in limits C1) (held_in held C1) (λ n is more. within C1 (n, is, more))
-        (slice_index_or limits.component 1 0) refl
+    (slice_index_or limits.component 1 0) refl
 within_each limits held within none (suc (suc (suc (suc zero)))) below =
     not_broken (limit_in limits C2) (held_in held C2) (λ n is more. within C2 (n, is, more))
-        (slice_index_or limits.component 2 0) refl
+    (slice_index_or limits.component 2 0) refl
 within_each limits held within none (suc (suc (suc (suc (suc j))))) below = absurd (omega arith)
 
 broken_at : (limit : Option ℕ) (held n : ℕ) → held ≤ or_none limit → limit ≡ Some n → n < held → ⊥
@@ -207,13 +207,13 @@ low_each limits low zero below = let h : limits.frame < 2 ^ 22 = low Frame limit
 low_each limits low (suc zero) below = low_inner limits.inner (low Inner)
 low_each limits low (suc (suc zero)) below =
     let h : slice_index_or limits.component 0 0 < 2 ^ 22 = low C0
-        (slice_index_or limits.component 0 0) refl in omega arith
+    (slice_index_or limits.component 0 0) refl in omega arith
 low_each limits low (suc (suc (suc zero))) below =
     let h : slice_index_or limits.component 1 0 < 2 ^ 22 = low C1
-        (slice_index_or limits.component 1 0) refl in omega arith
+    (slice_index_or limits.component 1 0) refl in omega arith
 low_each limits low (suc (suc (suc (suc zero)))) below =
     let h : slice_index_or limits.component 2 0 < 2 ^ 22 = low C2
-        (slice_index_or limits.component 2 0) refl in omega arith
+    (slice_index_or limits.component 2 0) refl in omega arith
 low_each limits low (suc (suc (suc (suc (suc j))))) below = absurd (omega arith)
 
 -- the budgets of a tree that has the frame's lists
@@ -240,5 +240,5 @@ pub numbers_are : (limits : Limits) (n : ℕ) → n ≡ or_none limits.inner
     ∷ slice_index_or limits.component 2 0 ∷ [] ≡ limit_each limits
 numbers_are limits n e =
     ap (λ k. limits.frame ∷ k ∷ slice_index_or limits.component 0 0
-        ∷ slice_index_or limits.component 1 0
+    ∷ slice_index_or limits.component 1 0
     ∷ slice_index_or limits.component 2 0 ∷ []) e

@@ -22,7 +22,7 @@ first_found closed (k ∷ rest) zero s below none some = ap level_of
 first_found closed (k ∷ rest) (suc i) s below none some =
     ap level_of (found_or (closed k) k (first closed (take i rest)) (first closed rest) none)
     ∙ first_found closed rest i s (omega arith)
-        (rest_none (closed k) k (first closed (take i rest)) none) some
+    (rest_none (closed k) k (first closed (take i rest)) none) some
 
 pub base_none : (closed : ℕ → Option Step) (l : List ℕ) → first closed l ≡ None → base closed l ≡ 0
 base_none closed l none = ap level_of none

@@ -41,7 +41,7 @@ took_left rows places b q s below is h =
     let p : ℕ = get_or places b 0 in
     let here = is ∙ any_default places b q 0 below in
     let next : get_or (set places b (q + 1)) b 0
-        ≡ suc p = get_or-set_same places b (q + 1) 0 below ∙ (add-one q ∙ ap suc here) in
+    ≡ suc p = get_or-set_same places b (q + 1) 0 below ∙ (add-one q ∙ ap suc here) in
     drop-cons l p s (place_in l p s h)
     ∙ (ap (λ (t : HullStep). t ∷ drop (suc p) l) (head_at l p s h)
     ∙ ap (λ (n : ℕ). s ∷ drop n l) (sym next))
@@ -55,7 +55,7 @@ took_done rows places b q s below is h =
     let p : ℕ = get_or places b 0 in
     let here = is ∙ any_default places b q 0 below in
     let next : get_or (set places b (q + 1)) b 0 ≡ p
-        + 1 = get_or-set_same places b (q + 1) 0 below ∙ ap (λ (n : ℕ). n + 1) here in
+    + 1 = get_or-set_same places b (q + 1) 0 below ∙ ap (λ (n : ℕ). n + 1) here in
     ap (λ (n : ℕ). take n l) next
     ∙ (take_more l p s (place_in l p s h)
     ∙ ap (λ (t : HullStep). take p l ++ t ∷ []) (head_at l p s h))
@@ -80,9 +80,9 @@ each_take P (suc n) (s ∷ rest) all = (all.0, each_take P n rest all.1)
 pub excess_next : (m : ℕ) (steps : List HullStep) (i : ℕ) (s : HullStep) → i < length steps → s
     ≡ get_or steps i s
     → excess_of m (take (i + 1) steps) ≡ excess_of m (take i steps)
-        + (4294967296 * s.gain - m * s.len)
+    + (4294967296 * s.gain - m * s.len)
 excess_next m steps i s below is =
     ap (excess_of m) (take_more steps i s below)
     ∙ (excess_more m (take i steps) (get_or steps i s)
     ∙ (ap (λ (t : HullStep). excess_of m (take i steps) + (scale * t.gain - m * t.len)) (sym is) ∙
-        omega arith))
+    omega arith))

@@ -31,7 +31,7 @@ upto_less (suc n) f g b inside le lt = elim (cases_eq b n) [
       omega arith)
   | inr ne ↦ (let here : f n ≤ g n = le n (omega arith) in
       let rest : upto n f < upto n g = upto_less n f g b (omega arith)
-          (λ j below. le j (omega arith)) lt in
+      (λ j below. le j (omega arith)) lt in
       omega arith)
 ]
 
@@ -65,7 +65,7 @@ open_fewer [] j s below was = absurd (omega arith)
 open_fewer (o ∷ rest) zero s below was = let e : is_none o ≡ 1 = ap is_none was in omega arith
 open_fewer (o ∷ rest) (suc j) s below was =
     let h : open_count (set rest j (Some s)) + 1
-        ≡ open_count rest = open_fewer rest j s (omega arith) was in
+    ≡ open_count rest = open_fewer rest j s (omega arith) was in
     omega arith
 
 pub ahead_closed : (blocks : ℕ) (left : ℕ → List Step) (closed : List (Option Step))
@@ -74,7 +74,7 @@ pub ahead_closed : (blocks : ℕ) (left : ℕ → List Step) (closed : List (Opt
     → ahead blocks left (set closed j (Some s)) unknown < ahead blocks left closed unknown
 ahead_closed blocks left closed unknown j s below was =
     let h : open_count (set closed j (Some s)) + 1
-        ≡ open_count closed = open_fewer closed j s below was in
+    ≡ open_count closed = open_fewer closed j s below was in
     omega arith
 
 pub ahead_looked : (blocks : ℕ) (left : ℕ → List Step) (closed : List (Option Step))
@@ -83,7 +83,7 @@ pub ahead_looked : (blocks : ℕ) (left : ℕ → List Step) (closed : List (Opt
     → ahead blocks left closed less < ahead blocks left closed unknown
 ahead_looked blocks left closed unknown less b inside learns keeps =
     let u : upto blocks less < upto blocks unknown = upto_less blocks less unknown b inside keeps
-        learns in
+    learns in
     omega arith
 
 -- where one budget more is closed, what is open was open
@@ -99,14 +99,14 @@ pub first_opens : (old new : ℕ → Option Step) → ((j : ℕ) → new j ≡ N
 first_opens old new opens [] e = refl
 first_opens old new opens (k ∷ rest) e =
     nearer_opens (old k) (new k) k (first new rest) (first old rest) (opens k)
-        (first_opens old new opens rest) e
+    (first_opens old new opens rest) e
 
 set_opens : (closed : List (Option Step)) (j : ℕ) (s : Step) → j < length closed → (i : ℕ)
     → closed_by (set closed j (Some s)) i ≡ None → closed_by closed i ≡ None
 set_opens closed j s below i e = elim (cases_eq i j) [
   | inl same ↦ absurd (none-some s
       (sym e ∙ subst (λ k. closed_by (set closed j (Some s)) k ≡ Some s) (sym same)
-          (get_or-set_same closed j (Some s) None below)))
+      (get_or-set_same closed j (Some s) None below)))
   | inr ne ↦ sym (get_or-set_other closed j i (Some s) None ne) ∙ e
 ]
 
@@ -114,10 +114,10 @@ pub close_opens : (w : Budgets) (counts : List ℕ) (done left : ℕ → List St
     (closed : List (Option Step)) (j : ℕ) (s : Step)
     → j < length closed → (b : ℕ)
     → nearest w (so_far counts done left (set closed j (Some s))) b ≡ None
-        → nearest w (so_far counts done left closed) b ≡ None
+    → nearest w (so_far counts done left closed) b ≡ None
 close_opens w counts done left closed j s below b e =
     first_opens (closed_by closed) (closed_by (set closed j (Some s))) (set_opens closed j s below)
-        (chain w.around (w.node b)) e
+    (chain w.around (w.node b)) e
 
 tail_of : List Step → List Step
 tail_of [] = []
@@ -156,14 +156,14 @@ pub closes : (w : Budgets) (counts : List ℕ) (done left : ℕ → List Step)
     (closed : List (Option Step)) (s : Step) (j : ℕ)
     → AreBudgets w → j < length closed → IsNextStep w (so_far counts done left closed) s
     → outermost w.limit (w.held (set counts s.block s.to)) (chain w.around (w.node s.block))
-        ≡ Some j
+    ≡ Some j
     → (steps : ℕ → List Step) → Walks w steps (so_far counts done left closed)
     → Walks w steps (so_far counts done left (set closed j (Some s)))
 closes w counts done left closed s j budgets below next breaks steps walks =
     let o : Outcome = so_far counts done left closed in
     let n : Outcome = so_far counts done left (set closed j (Some s)) in
     let broken = is_broken w.limit (w.held (set counts s.block s.to))
-        (chain w.around (w.node s.block)) j breaks in
+    (chain w.around (w.node s.block)) j breaks in
     let move : Closes w o s next.0 j n = record {
       next = next.1;
       on = broken.0;
@@ -182,7 +182,7 @@ pub broken_inside : (w : Budgets) (o : Outcome) (s : Step) (j : ℕ) (held : ℕ
 broken_inside w o s j held budgets next breaks =
     on_below w.number j (chain w.around (w.node s.block))
     (chain_below w.around budgets.nested (w.node s.block) w.number
-        (budgets.inside s.block next.1.inside))
+    (budgets.inside s.block next.1.inside))
     (is_broken w.limit held (chain w.around (w.node s.block)) j breaks).0
 
 pub broken_open : (w : Budgets) (o : Outcome) (s : Step) (j : ℕ) (held : ℕ → ℕ) → IsNextStep w o s

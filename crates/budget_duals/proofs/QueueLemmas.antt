@@ -41,9 +41,10 @@ none_at b [] e = tt
 none_at b (x ∷ rest) e =
     let s = sum_by-cons (is_at b) x rest in
     let here : is_at b x ≡ 0 = omega arith in
-    let later : count_at b rest ≡ 0 = omega arith in
-    (λ same. (let one : is_at b x ≡ 1 = subst (λ k. is_at k x ≡ 1) same (at_own x) in omega arith),
-        none_at b rest later)
+    let later : count_at b rest ≡ 0 = omega arith in (
+      λ same. (let one : is_at b x ≡ 1 = subst (λ k. is_at k x ≡ 1) same (at_own x) in omega arith),
+      none_at b rest later,
+    )
 
 count_none : (b : ℕ) (items : List Entry) → AllByRecursion (λ e. ¬ (e.block ≡ b)) items
     → count_at b items ≡ 0
@@ -126,11 +127,11 @@ put_queue blocks offered e old new is away queue same = record {
   each = all_shuffled (IsEntry blocks offered) (e ∷ old) new same (is, queue.each);
   once = λ b.
       let c : count_at b new ≡ is_at b e
-          + count_at b old = sum_by_pushed (is_at b) e old new same in
+      + count_at b old = sum_by_pushed (is_at b) e old new same in
       elim (cases_eq e.block b) [
         | inl own ↦ (let z : count_at b old ≡ 0 =
             count_none b old (subst (λ k. AllByRecursion (λ (f : Entry). ¬ (f.block ≡ k)) old) own
-                away) in
+            away) in
             let m = at_most_one b e in
             omega arith)
         | inr ne ↦ (let z : is_at b e ≡ 0 = at_other b e ne in let o = queue.once b in omega arith)
@@ -163,10 +164,10 @@ refilled_some b k Nothing old new same =
     (let c = sum_by-IsPermutation (is_at k) old new same in omega arith)
 refilled_some b k (Step s) old new same =
     (let c = sum_by_pushed (is_at k) (record { block = b; offer = Step s }) old new same in omega
-        arith)
+    arith)
 refilled_some b k (AtMost bound) old new same =
     (let c = sum_by_pushed (is_at k) (record { block = b; offer = AtMost bound }) old new same in
-        omega arith)
+    omega arith)
 
 pub refilled_own : (b : ℕ) (o : Offer) (left : List HullStep) (old new : List Entry)
     → IsOffer left o
@@ -188,20 +189,20 @@ pub covers_on : (w : Budgets) (o n : Outcome) (offer : Offer) (items rest new : 
     (x : Entry)
     → Covers w o items → ((b : ℕ) → count_at b rest + is_at b x ≡ count_at b items)
     → ((b : ℕ) → nearest w n b ≡ None → nearest w o b ≡ None)
-        → ((b : ℕ) → b ≢ x.block → n.left b ≡ o.left b)
+    → ((b : ℕ) → b ≢ x.block → n.left b ≡ o.left b)
     → IsOffer (n.left x.block) offer → Refilled x.block offer rest new → Covers w n new
 covers_on w o n offer items rest new x covers counts opens lefts is same b inside is_open = elim
     (cases_eq b x.block) [
-  | inl own ↦ subst (λ k. (n.left k ≡ []) ⊎ (1 ≤ count_at k new)) (sym own)
-      (refilled_own x.block offer (n.left x.block) rest new is same)
-  | inr ne ↦ elim (covers b inside (opens b is_open)) [
-    | inl none ↦ inl (lefts b ne ∙ none)
-    | inr some ↦ (let c = counts b in
-        let z : is_at b x ≡ 0 = at_other b x (λ e. ne (sym e)) in
-        let m = refilled_some x.block b offer rest new same in
-        inr (omega arith))
-  ]
-]
+      | inl own ↦ subst (λ k. (n.left k ≡ []) ⊎ (1 ≤ count_at k new)) (sym own)
+          (refilled_own x.block offer (n.left x.block) rest new is same)
+      | inr ne ↦ elim (covers b inside (opens b is_open)) [
+        | inl none ↦ inl (lefts b ne ∙ none)
+        | inr some ↦ (let c = counts b in
+            let z : is_at b x ≡ 0 = at_other b x (λ e. ne (sym e)) in
+            let m = refilled_some x.block b offer rest new same in
+            inr (omega arith))
+      ]
+    ]
 
 -- or it is not open
 pub covers_dropped : (w : Budgets) (o : Outcome) (items rest : List Entry) (x : Entry)
@@ -236,16 +237,18 @@ as_steep x y e =
     let p : ℕ = gain_of x.offer * len_of y.offer in
     let q : ℕ = gain_of y.offer * len_of x.offer in
     not_less p q (nat_cmp p q) (ranked p q (nat_cmp p q) refl)
-        (first_not_lt (nat_cmp p q) _ (first_not_lt _ _ e))
+    (first_not_lt (nat_cmp p q) _ (first_not_lt _ _ e))
 
 -- steps that fall are no steeper than the first one
 falls_below : (s : HullStep) (rest : List HullStep) → FallFrom s.gain s.len rest
     → AllByRecursion (IsAsSteep s) rest
 falls_below s [] fall = tt
 falls_below s (t ∷ rest) fall =
-    let here : IsAsSteep s t = omega (arith, fall.0) in
-    (here, all_weaker (IsAsSteep t) (IsAsSteep s) (λ u below. steep_through s t u here below) rest
-        (falls_below t rest fall.1))
+    let here : IsAsSteep s t = omega (arith, fall.0) in (
+      here,
+      all_weaker (IsAsSteep t) (IsAsSteep s) (λ u below. steep_through s t u here below) rest
+          (falls_below t rest fall.1),
+    )
 
 falls_later : (g n : ℕ) (done left : List HullStep) → FallFrom g n (done ++ left) → IsFalling left
 falls_later g n [] [] fall = tt
@@ -261,7 +264,7 @@ pub head_steepest : (s : HullStep) (left : List HullStep) → IsHead s left → 
 head_steepest s [] head fall = absurd head
 head_steepest s (t ∷ rest) head fall =
     subst (λ (v : HullStep). AllByRecursion (IsAsSteep v) (t ∷ rest)) head
-        (steep_self t, falls_below t rest fall)
+    (steep_self t, falls_below t rest fall)
 
 -- what is at least as steep as an offer is at least as steep as all that is left
 pub above_offer : (s : HullStep) (o : Offer) (left : List HullStep) → IsOffer left o
@@ -270,17 +273,17 @@ pub above_offer : (s : HullStep) (o : Offer) (left : List HullStep) → IsOffer 
 above_offer s Nothing left is fall above = subst (AllByRecursion (IsAsSteep s)) (sym is) tt
 above_offer s (Step t) left is fall above =
     all_weaker (IsAsSteep t) (IsAsSteep s) (λ u below. steep_through s t u above below) left
-        (head_steepest t left is fall)
+    (head_steepest t left is fall)
 above_offer s (AtMost bound) left is fall above =
     all_weaker (IsNoSteeper bound) (IsAsSteep s)
     (λ u below. steep_by s.gain s.len bound.gain bound.len u.gain u.len bound.longer above below)
-        left is.1
+    left is.1
 
 -- THE TOP IS NEXT: a step at the top of the heap is at least as steep as all that open blocks have left
 pub top_steepest : (w : Budgets) (o : Outcome) (offered : ℕ → Offer) (items rest : List Entry)
     (x : Entry) (s : HullStep)
     → IsQueue w.blocks offered items → IsPermutation items (x ∷ rest)
-        → IsUpperBound entry_cmp x rest → Covers w o items
+    → IsUpperBound entry_cmp x rest → Covers w o items
     → x.offer ≡ Step s → ((b : ℕ) → b < w.blocks → IsOffer (o.left b) (offered b))
     → ((b : ℕ) → b < w.blocks → IsFalling (o.left b))
     → (b : ℕ) → b < w.blocks → nearest w o b ≡ None → AllByRecursion (IsAsSteep s) (o.left b)
@@ -290,7 +293,7 @@ top_steepest w o offered items rest x s queue same upper covers is true_offers f
       | inl own ↦ (let entry = popped_entry w.blocks offered items rest x queue same in
           let head : IsOffer (o.left b) (Step s) =
           subst (IsOffer (o.left b)) (ap offered own ∙ sym entry.offer ∙ is) (true_offers b inside)
-              in
+          in
           head_steepest s (o.left b) head (falls b inside))
       | inr ne ↦ elim (covers b inside is_open) [
         | inl none ↦ subst (AllByRecursion (IsAsSteep s)) (sym none) tt
@@ -298,17 +301,17 @@ top_steepest w o offered items rest x s queue same upper covers is true_offers f
             let z : is_at b x ≡ 0 = at_other b x (λ e. ne (sym e)) in
             let q = popped_queue w.blocks offered items rest x queue same in
             let f = found_at (λ e. IsEntry w.blocks offered e × (is_lt (entry_cmp x e) ≡ false)) b
-                rest (omega arith)
+            rest (omega arith)
             (both_all (IsEntry w.blocks offered) (λ e. is_lt (entry_cmp x e) ≡ false) rest q.each
-                upper) in
+            upper) in
             let slope : gain_of f.0.offer * len_of x.offer
-                ≤ gain_of x.offer * len_of f.0.offer = as_steep x f.0 f.2.1 in
+            ≤ gain_of x.offer * len_of f.0.offer = as_steep x f.0 f.2.1 in
             let slope_s : gain_of f.0.offer * s.len ≤ s.gain * len_of f.0.offer =
             subst (λ (p : Offer). gain_of f.0.offer * len_of p ≤ gain_of p * len_of f.0.offer) is
-                slope in
+            slope in
             let own_offer : IsOffer (o.left b) f.0.offer =
             subst (IsOffer (o.left b)) (ap offered (sym f.1) ∙ sym f.2.0.offer)
-                (true_offers b inside) in
+            (true_offers b inside) in
             above_offer s f.0.offer (o.left b) own_offer (falls b inside) slope_s)
       ]
     ]

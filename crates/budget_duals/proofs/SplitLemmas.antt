@@ -17,7 +17,7 @@ only_past zero i v past = refl
 only_past (suc n) i v past =
     let before : upto n (only i v) ≡ 0 = only_past n i v (omega arith) in
     let here : only i v n
-        ≡ 0 = only_other i v n (λ e. let same : i ≡ n = e in absurd (omega arith)) in
+    ≡ 0 = only_other i v n (λ e. let same : i ≡ n = e in absurd (omega arith)) in
     omega arith
 
 only_sum : (n i v : ℕ) → i < n → upto n (only i v) ≡ v
@@ -42,9 +42,9 @@ pub split_sum : (f : Step → ℕ) (n : ℕ) (steps : List Step) → AllByRecurs
 split_sum f n [] all = upto_none n
 split_sum f n (s ∷ rest) all =
     let each : upto n (λ b. total f (steps_of b (s ∷ rest)))
-        ≡ upto n (λ b. only s.block (f s) b + total f (steps_of b rest)) =
+    ≡ upto n (λ b. only s.block (f s) b + total f (steps_of b rest)) =
     upto_same n (λ b. total f (steps_of b (s ∷ rest)))
-        (λ b. only s.block (f s) b + total f (steps_of b rest))
+    (λ b. only s.block (f s) b + total f (steps_of b rest))
     (λ b lt. filtered_total (s.block == b) f s (steps_of b rest)) in
     let both : upto n (λ b. only s.block (f s) b + total f (steps_of b rest))
     ≡ upto n (only s.block (f s)) + upto n (λ b. total f (steps_of b rest)) =
@@ -62,7 +62,7 @@ pub few_steps : (n : ℕ) (steps : List Step) → AllByRecursion (λ s. s.block 
     → upto n (λ b. lens (steps_of b steps)) < 2 ^ 32 → length steps < 2 ^ 32
 few_steps n steps all bytes =
     let same : upto n (λ b. lens (steps_of b steps))
-        ≡ lens steps = split_sum (λ s. s.len) n steps all in
+    ≡ lens steps = split_sum (λ s. s.len) n steps all in
     let few : length steps ≤ lens steps = few_lens steps in
     omega arith
 
@@ -81,7 +81,7 @@ no_steps n b [] past all = refl
 no_steps n b (s ∷ rest) past all =
     let here : s.block < n = all.0 in
     none_filtered (s.block == b) s (steps_of b rest) (other_block s.block b (omega arith)) ∙
-        no_steps n b rest past all.1
+    no_steps n b rest past all.1
 
 no_row : (rows : List (List Step)) (b : ℕ) → length rows ≤ b → list_at rows b ≡ []
 no_row [] b past = refl
@@ -109,7 +109,7 @@ pub left_all : (rows : List (List Step)) (places : List ℕ) (steps : List Step)
     ≡ replicate (length rows) 0
     → ((b : ℕ) → b < length rows → list_at rows b ≡ steps_of b steps)
     → AllByRecursion (λ s. s.block < length rows) steps → (b : ℕ) → left_at rows places b
-        ≡ steps_of b steps
+    ≡ steps_of b steps
 left_all rows places steps zeros filled all b = elim (two_ways (length rows) b) [
   | inl past ↦ none_left rows places b past ∙ sym (no_steps (length rows) b steps past all)
   | inr below ↦ ap (λ (l : List ℕ). drop (get_or l b 0) (list_at rows b)) zeros

@@ -50,7 +50,7 @@ pub product_fits : (m u : ℕ) → m < 2 ^ 96 → u < 2 ^ 25 → m * u ≤ 2 ^ 1
 product_fits m u small few =
     let a : m * u ≤ 2 ^ 96 * u = mul-le-mul_right u (let l : m ≤ 2 ^ 96 = omega arith in l) in
     let b : 2 ^ 96 * u ≤ 2 ^ 96 * 2 ^ 25 = mul-le-mul_left (2 ^ 96)
-        (let l : u ≤ 2 ^ 25 = omega arith in l) in
+    (let l : u ≤ 2 ^ 25 = omega arith in l) in
     omega arith
 
 pub worth_fits : (m limit held : ℕ) → m < 2 ^ 96 → limit < 2 ^ 25 → m * (limit - held) ≤ 2 ^ 121
@@ -66,7 +66,7 @@ upto_small (suc n) f h =
 -- one number more is set
 pub set_more : (out : List ℕ) (f : ℕ → ℕ) (k v : ℕ) → k < length out → v ≡ f k
     → ((j : ℕ) → j < k → number_at out j ≡ f j) → (j : ℕ) → j < k + 1 → number_at (set out k v) j
-        ≡ f j
+    ≡ f j
 set_more out f k v inside is before j below = elim (cases_eq j k) [
   | inl e ↦ subst (λ i. number_at (set out k v) i ≡ f i) (sym e)
       (get_or-set_same out k v 0 inside ∙ is)

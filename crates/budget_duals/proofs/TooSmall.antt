@@ -34,7 +34,6 @@ outermost_once l h a b first second =
     let same : place_of a ≡ place_of b = omega arith in
     sym (at_place a) ∙ (ap budget_at same ∙ at_place b)
 
-
 abbrev Answer : Type 0
 Answer = Result Certificate AllocateRefusal
 
@@ -42,20 +41,20 @@ pub too_small_at : (l : Limits) (h : Held) (b : Budget) (n : ℕ) → IsOutermos
     ≡ held_in h b
     → (budget : Budget) (needed : ℕ)
     → ◌≡◌ {A = Answer} (Err (LimitTooSmall b n)) (Err (LimitTooSmall budget needed)) ↔ IsTooSmall l
-        h budget needed
+    h budget needed
 too_small_at l h b n out is budget needed = (
   λ e. (let same : b ≡ budget = cc in
-  let also : n ≡ needed = cc in
-  (subst (IsOutermostBroken l h) same out, sym also ∙ (is ∙ ap (held_in h) same))),
+      let also : n ≡ needed = cc in
+      (subst (IsOutermostBroken l h) same out, sym also ∙ (is ∙ ap (held_in h) same))),
   λ t. (let same : b ≡ budget = outermost_once l h b budget out t.0 in
-  let also : n ≡ needed = is ∙ (ap (held_in h) same ∙ sym t.1) in
-  cc),
+      let also : n ≡ needed = is ∙ (ap (held_in h) same ∙ sym t.1) in
+      cc),
 )
 
 pub not_too_small : (l : Limits) (h : Held) (r : Answer) → IsWithin l h
     → ((budget : Budget) (needed : ℕ) → r ≡ Err (LimitTooSmall budget needed) → ⊥)
     → (budget : Budget) (needed : ℕ)
-        → (r ≡ Err (LimitTooSmall budget needed)) ↔ IsTooSmall l h budget needed
+    → (r ≡ Err (LimitTooSmall budget needed)) ↔ IsTooSmall l h budget needed
 not_too_small l h r within other budget needed = (
   λ e. absurd (other budget needed e),
   λ t. absurd (within budget t.0.broken),

@@ -61,7 +61,7 @@ outermost_push : (limit held : ℕ → ℕ) (l : List ℕ) (j : ℕ) → outermo
 outermost_push limit held [] j = last_none (if nat_lt (limit j) (held j) then Some j else None)
 outermost_push limit held (k ∷ rest) j =
     ap (λ o. last_of o (if nat_lt (limit k) (held k) then Some k else None))
-        (outermost_push limit held rest j)
+    (outermost_push limit held rest j)
     ∙ last_assoc (if nat_lt (limit j) (held j) then Some j else None) (outermost limit held rest)
     (if nat_lt (limit k) (held k) then Some k else None)
 
@@ -78,7 +78,7 @@ pub outermost_more : (limit held : ℕ → ℕ) (l : List ℕ) (i : ℕ) → i <
     (outermost limit held (take i l))
 outermost_more limit held l i below =
     ap (outermost limit held) (take_more l i 0 below) ∙ outermost_push limit held (take i l)
-        (get_or l i 0)
+    (get_or l i 0)
 
 -- what is found is on the list and holds too much; where nothing is found, none does
 two_ways : (m n : ℕ) → (m < n) ⊎ (n ≤ m)
@@ -100,10 +100,10 @@ pub none_broken : (limit held : ℕ → ℕ) (l : List ℕ) → outermost limit 
 none_broken limit held [] none j on = absurd on
 none_broken limit held (k ∷ rest) none j (inl e) =
     subst (λ i. held i ≤ limit i) e
-        (none_cases limit held rest k (outermost limit held rest) refl none).1
+    (none_cases limit held rest k (outermost limit held rest) refl none).1
 none_broken limit held (k ∷ rest) none j (inr on) =
     none_broken limit held rest
-        (none_cases limit held rest k (outermost limit held rest) refl none).0 j on
+    (none_cases limit held rest k (outermost limit held rest) refl none).0 j on
 
 some_cases : (limit held : ℕ → ℕ) (l : List ℕ) (k j : ℕ) (o : Option ℕ) → outermost limit held l ≡ o
     → last_of o (if nat_lt (limit k) (held k) then Some k else None) ≡ Some j
@@ -123,9 +123,9 @@ pub is_broken : (limit held : ℕ → ℕ) (l : List ℕ) (j : ℕ) → outermos
 is_broken limit held [] j some = let bad : ⊥ = cc in absurd bad
 is_broken limit held (k ∷ rest) j some = elim
     (some_cases limit held rest k j (outermost limit held rest) refl some) [
-  | inl later ↦ (let h = is_broken limit held rest j later in (inr h.0, h.1))
-  | inr here ↦ (inl here.0, subst (λ i. limit i < held i) here.0 here.1)
-]
+      | inl later ↦ (let h = is_broken limit held rest j later in (inr h.0, h.1))
+      | inr here ↦ (inl here.0, subst (λ i. limit i < held i) here.0 here.1)
+    ]
 
 -- the budgets around one are the tree's, and all of them have numbers below the tree's
 pub row_is : (rows : List (Bor (List ℕ))) (j : ℕ) (d : Bor (List ℕ)) → j < length rows
@@ -152,13 +152,13 @@ pub outermost_same : (limit f g : ℕ → ℕ) → ((j : ℕ) → f j ≡ g j) �
 outermost_same limit f g same [] = refl
 outermost_same limit f g same (j ∷ rest) =
     ap (λ o. last_of o (if nat_lt (limit j) (f j) then Some j else None))
-        (outermost_same limit f g same rest)
+    (outermost_same limit f g same rest)
     ∙ ap (λ n. last_of (outermost limit g rest) (if nat_lt (limit j) n then Some j else None))
-        (same j)
+    (same j)
 
 pub listed_bytes : (h : Held) (j : ℕ)
     → number_at (h.frame ∷ h.inner ∷ slice_index_or h.component 0 0 ∷ slice_index_or h.component 1 0
-        ∷ slice_index_or h.component 2 0 ∷ []) j
+    ∷ slice_index_or h.component 2 0 ∷ []) j
     ≡ bytes_in h j
 listed_bytes h zero = refl
 listed_bytes h (suc zero) = refl

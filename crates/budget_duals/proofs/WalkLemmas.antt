@@ -28,7 +28,7 @@ pub same_budgets : (t : Tree) (b c : ℕ) (n m : ℕ → ℕ) (h k : List ℕ �
     → budgets_of t b n h ≡ budgets_of t c m k
 same_budgets t b c n m h k eb en eh =
     ap (λ x. budgets_of t x n h) eb ∙
-        (ap (λ x. budgets_of t c x h) en ∙ ap (λ x. budgets_of t c m x) eh)
+    (ap (λ x. budgets_of t c x h) en ∙ ap (λ x. budgets_of t c m x) eh)
 
 head_is : (s : HullStep) (xs : List HullStep) → IsHead s xs → (rest : List HullStep)
     × (xs ≡ s ∷ rest)
@@ -38,94 +38,94 @@ head_is s (t ∷ rest) head = (rest, ap (λ v. v ∷ rest) head)
 module _ (w : Budgets) (steps : ℕ → List HullStep) (most : List ℕ) (o : Outcome)
     (offered : ℕ → Offer) (items rest : List Entry)
     (x : Entry) (going : IsGoing w steps o offered items) (popped : IsPermutation items (x ∷ rest))
-        where
-  pub top_entry : IsEntry w.blocks offered x
-  top_entry = popped_entry w.blocks offered items rest x going.queue popped
+  where
+    pub top_entry : IsEntry w.blocks offered x
+    top_entry = popped_entry w.blocks offered items rest x going.queue popped
 
-  module _ (can : CanWalk most steps) (blocks : length most ≡ w.blocks)
-      (true_offers : (b : ℕ) → b < w.blocks → IsOffer (o.left b) (offered b))
-      (own : (b : ℕ) → b < w.blocks → HasBlock b (o.done b ++ o.left b))
-      (s : HullStep) (is : x.offer ≡ Step s) where
-    in_most : (b : ℕ) → b < w.blocks → b < length most
-    in_most b inside = subst (λ n. b < n) (sym blocks) inside
+    module _ (can : CanWalk most steps) (blocks : length most ≡ w.blocks)
+        (true_offers : (b : ℕ) → b < w.blocks → IsOffer (o.left b) (offered b))
+        (own : (b : ℕ) → b < w.blocks → HasBlock b (o.done b ++ o.left b))
+        (s : HullStep) (is : x.offer ≡ Step s) where
+      in_most : (b : ℕ) → b < w.blocks → b < length most
+      in_most b inside = subst (λ n. b < n) (sym blocks) inside
 
-    top_head : IsHead s (o.left x.block)
-    top_head = subst (IsOffer (o.left x.block)) (sym top_entry.offer ∙ is)
-        (true_offers x.block top_entry.inside)
+      top_head : IsHead s (o.left x.block)
+      top_head = subst (IsOffer (o.left x.block)) (sym top_entry.offer ∙ is)
+          (true_offers x.block top_entry.inside)
 
-    pub top_own : s.block ≡ x.block
-    top_own = at_head (λ (t : HullStep). t.block ≡ x.block) s (o.left x.block) top_head
-        (all_after (λ (t : HullStep). t.block ≡ x.block) (o.done x.block) (o.left x.block)
-            (own x.block top_entry.inside))
+      pub top_own : s.block ≡ x.block
+      top_own = at_head (λ (t : HullStep). t.block ≡ x.block) s (o.left x.block) top_head
+          (all_after (λ (t : HullStep). t.block ≡ x.block) (o.done x.block) (o.left x.block)
+          (own x.block top_entry.inside))
 
-    splits : (b : ℕ) → b < w.blocks → o.done b ++ o.left b ≡ steps b
-    splits b inside = going.walks.1.kept.splits b inside
+      splits : (b : ℕ) → b < w.blocks → o.done b ++ o.left b ≡ steps b
+      splits b inside = going.walks.1.kept.splits b inside
 
-    left_falls : (b : ℕ) → b < w.blocks → IsFalling (o.left b)
-    left_falls b inside =
-        falls_left (o.done b) (o.left b)
-            (subst IsFalling (sym (splits b inside)) (can.fall b (in_most b inside)))
+      left_falls : (b : ℕ) → b < w.blocks → IsFalling (o.left b)
+      left_falls b inside =
+          falls_left (o.done b) (o.left b)
+          (subst IsFalling (sym (splits b inside)) (can.fall b (in_most b inside)))
 
-    pub top_next : IsUpperBound entry_cmp x rest → nearest w o x.block ≡ None → IsNextStep w o s
-    top_next upper is_open =
-        let h = head_is s (o.left x.block) top_head in (
-          h.0,
+      pub top_next : IsUpperBound entry_cmp x rest → nearest w o x.block ≡ None → IsNextStep w o s
+      top_next upper is_open =
+          let h = head_is s (o.left x.block) top_head in (
+            h.0,
+            record {
+              inside = subst (λ b. b < w.blocks) (sym top_own) top_entry.inside;
+              open_block = subst (λ b. nearest w o b ≡ None) (sym top_own) is_open;
+              head = ap o.left top_own ∙ h.1;
+              steepest = top_steepest w o offered items rest x s going.queue popped upper going.covers
+                  is true_offers left_falls;
+            },
+          )
+
+      pub top_can : CanTake most o.counts s
+      top_can =
+          let b : ℕ = x.block in
+          let inside : b < w.blocks = top_entry.inside in
+          let from : get_or o.counts b 0 ≡ s.from = going.walks.1.kept.places b inside
+          ∙ head_from s (o.done b) (o.left b) top_head
+          (subst (FollowOn 0) (sym (splits b inside)) (can.follow b (in_most b inside))) in
+          let to : s.to ≤ get_or most b 0 = at_head (λ (t : HullStep). t.to ≤ get_or most b 0) s
+          (o.left b) top_head
+          (all_after (λ (t : HullStep). t.to ≤ get_or most b 0) (o.done b) (o.left b)
+          (subst (AllByRecursion (λ (t : HullStep). t.to ≤ get_or most b 0)) (sym (splits b inside))
+          (can.to b (in_most b inside)))) in
           record {
-            inside = subst (λ b. b < w.blocks) (sym top_own) top_entry.inside;
-            open_block = subst (λ b. nearest w o b ≡ None) (sym top_own) is_open;
-            head = ap o.left top_own ∙ h.1;
-            steepest = top_steepest w o offered items rest x s going.queue popped upper going.covers
-                is true_offers left_falls;
-          },
-        )
+            block = subst (λ k. k < length most) (sym top_own) (in_most b inside);
+            from = subst (λ k. get_or o.counts k 0 ≡ s.from) (sym top_own) from;
+            to = subst (λ k. s.to ≤ get_or most k 0) (sym top_own) to;
+          }
 
-    pub top_can : CanTake most o.counts s
-    top_can =
-        let b : ℕ = x.block in
-        let inside : b < w.blocks = top_entry.inside in
-        let from : get_or o.counts b 0 ≡ s.from = going.walks.1.kept.places b inside
-        ∙ head_from s (o.done b) (o.left b) top_head
-        (subst (FollowOn 0) (sym (splits b inside)) (can.follow b (in_most b inside))) in
-        let to : s.to ≤ get_or most b 0 = at_head (λ (t : HullStep). t.to ≤ get_or most b 0) s
-            (o.left b) top_head
-        (all_after (λ (t : HullStep). t.to ≤ get_or most b 0) (o.done b) (o.left b)
-        (subst (AllByRecursion (λ (t : HullStep). t.to ≤ get_or most b 0)) (sym (splits b inside))
-            (can.to b (in_most b inside)))) in
+    -- the entry's block is not open
+    pub going_dropped : IsHeap entry_cmp rest → ¬ (nearest w o x.block ≡ None)
+        → IsGoing w steps o offered rest
+    going_dropped order shut = record {
+      walks = going.walks;
+      queue = popped_queue w.blocks offered items rest x going.queue popped;
+      covers = covers_dropped w o items rest x going.covers
+          (popped_count w.blocks offered items rest x going.queue popped) shut;
+      order = order;
+    }
+
+    -- it was visited, and its block looked at again
+    pub going_on : (n : Outcome) (now : ℕ → Offer) (new : List Entry) → Walks w steps n
+        → ((b : ℕ) → nearest w n b ≡ None → nearest w o b ≡ None)
+        → ((b : ℕ) → b ≢ x.block → n.left b ≡ o.left b)
+        → ((k : ℕ) → k ≢ x.block → now k ≡ offered k) → IsOffer (n.left x.block) (now x.block)
+        → Refilled x.block (now x.block) rest new → IsHeap entry_cmp new → IsGoing w steps n now new
+    going_on n now new walks opens lefts others is refilled order =
+        let away = popped_away w.blocks offered items rest x going.queue popped in
         record {
-          block = subst (λ k. k < length most) (sym top_own) (in_most b inside);
-          from = subst (λ k. get_or o.counts k 0 ≡ s.from) (sym top_own) from;
-          to = subst (λ k. s.to ≤ get_or most k 0) (sym top_own) to;
+          walks = walks;
+          queue = refilled_queue w.blocks now x.block (now x.block) rest new refl top_entry.inside
+              away
+              (queue_stays w.blocks offered now x.block rest others away
+              (popped_queue w.blocks offered items rest x going.queue popped)) refilled;
+          covers = covers_on w o n (now x.block) items rest new x going.covers
+              (popped_count w.blocks offered items rest x going.queue popped) opens lefts is refilled;
+          order = order;
         }
-
-  -- the entry's block is not open
-  pub going_dropped : IsHeap entry_cmp rest → ¬ (nearest w o x.block ≡ None)
-      → IsGoing w steps o offered rest
-  going_dropped order shut = record {
-    walks = going.walks;
-    queue = popped_queue w.blocks offered items rest x going.queue popped;
-    covers = covers_dropped w o items rest x going.covers
-        (popped_count w.blocks offered items rest x going.queue popped) shut;
-    order = order;
-  }
-
-  -- it was visited, and its block looked at again
-  pub going_on : (n : Outcome) (now : ℕ → Offer) (new : List Entry) → Walks w steps n
-      → ((b : ℕ) → nearest w n b ≡ None → nearest w o b ≡ None)
-          → ((b : ℕ) → b ≢ x.block → n.left b ≡ o.left b)
-      → ((k : ℕ) → k ≢ x.block → now k ≡ offered k) → IsOffer (n.left x.block) (now x.block)
-      → Refilled x.block (now x.block) rest new → IsHeap entry_cmp new → IsGoing w steps n now new
-  going_on n now new walks opens lefts others is refilled order =
-      let away = popped_away w.blocks offered items rest x going.queue popped in
-      record {
-        walks = walks;
-        queue = refilled_queue w.blocks now x.block (now x.block) rest new refl top_entry.inside
-            away
-            (queue_stays w.blocks offered now x.block rest others away
-                (popped_queue w.blocks offered items rest x going.queue popped)) refilled;
-        covers = covers_on w o n (now x.block) items rest new x going.covers
-            (popped_count w.blocks offered items rest x going.queue popped) opens lefts is refilled;
-        order = order;
-      }
 
 -- with no entry left the walk has settled
 pub going_ended : (w : Budgets) (steps : ℕ → List HullStep) (o : Outcome) (offered : ℕ → Offer)
@@ -133,7 +133,7 @@ pub going_ended : (w : Budgets) (steps : ℕ → List HullStep) (o : Outcome) (o
     → IsGoing w steps o offered items → items ≡ [] → IsSettled w steps o
 going_ended w steps o offered items going empty =
     walk_end w steps going.walks.0 o going.walks.1
-        (λ b inside is_open. elim (going.covers b inside is_open) [
+    (λ b inside is_open. elim (going.covers b inside is_open) [
       | inl none ↦ none
       | inr some ↦ (let z : count_at b items ≡ 0 = ap (count_at b) empty in absurd (omega arith))
     ])

@@ -18,6 +18,6 @@ entry_total =
     then_total
     (then_total
     (back_total (slopes_total (λ (e : Entry). gain_of e.offer) (λ (e : Entry). len_of e.offer)
-        (λ e. some_len e.offer)))
+    (λ e. some_len e.offer)))
     (on_total (λ (e : Entry). is_bound e.offer) bool_cmp_total))
     (back_total (on_total (λ (e : Entry). e.block) nat_cmp_total))

@@ -17,4 +17,6 @@ pub mod Price
 pub mod Queue
 pub mod Sums
 pub mod Tree
+pub mod TwoBlocks
+pub mod TwoBlocksLaws
 pub mod Walking

@@ -12,5 +12,5 @@ abbrev pub refused_listed : (List ℕ → ℕ → ℕ) → List ℕ → List ℕ
 refused_listed held counts multipliers closed budget =
     refused_one budget (number_at multipliers (place_of budget))
     (λ s. held (set counts s.block s.to) (place_of budget) -
-        (held counts (place_of budget) + s.len))
+    (held counts (place_of budget) + s.len))
     (closed_by closed (place_of budget))

@@ -16,13 +16,21 @@ ghost use Rattle.budget_duals.specs.Tree.{closed_by, number_at};
 ghost use Rattle.budget_duals.specs.declared.certificate.AllocateRefusal.{AllocateRefusal};
 
 use crate::refused::{gained_sum, refused_list};
-use crate::{AllocateRefusal, Certificate, Duals, Holdings, Limits, ListedOffers, Offers, Price, Tree, allocate_over};
+use crate::{
+    AllocateRefusal, Certificate, Duals, Holdings, Limits, ListedOffers, Offers, Price, Tree,
+    allocate_over,
+};
 use cine_nums::Budget;
 use rd_hulls::Step;
 use std::alloc::{AllocError, Global};
 
 // What an allocation beside the five budgets of a frame says.
-fn certificate_of<O: Offers, P: Price>(start: u128, offers: &O, price: &P, duals: &Duals) -> Certificate
+fn certificate_of<O: Offers, P: Price>(
+    start: u128,
+    offers: &O,
+    price: &P,
+    duals: &Duals,
+) -> Certificate
     requires multipliers { length duals.now.multipliers.items ≡ 5 }
     requires closed { length duals.now.closed.items ≡ 5 }
     requires can { (j : ℕ) (s : Step) → closed_by duals.now.closed.items j ≡ Some s →

@@ -8,6 +8,8 @@
 //! choice, headers included, and after one step more.
 #![tactic(auto)]
 
+#[cfg(test)]
+mod allocate_tests;
 mod begin;
 mod certificate;
 mod duals;
@@ -30,6 +32,8 @@ mod sums;
 #[cfg(test)]
 mod tests;
 mod tree;
+#[cfg(test)]
+mod two_blocks;
 mod walking;
 
 pub use certificate::{AllocateRefusal, Certificate, RefusedStep};

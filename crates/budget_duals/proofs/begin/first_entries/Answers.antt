@@ -27,7 +27,7 @@ loop-block-preserved g c =
           (g.O.Offers.offered c.args.offers.now)
           c.loop-block.block (heap_items c.loop-block.heap) (heap_items c.refill.new.heap) inside
           (g.met.O.Offers.true_offers c.args.offers.now c.loop-block.block inside)
-              c.loop-block.invariant.begun c.refill.ensures.refilled;
+          c.loop-block.invariant.begun c.refill.ensures.refilled;
       order = c.refill.ensures.order;
       few = omega arith;
       room = omega arith;

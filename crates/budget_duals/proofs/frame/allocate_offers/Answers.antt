@@ -9,10 +9,10 @@ use Rattle.budget_duals.proofs.frame.allocate_offers.Goals as goal
 pub returns-in-Some-clause-too_small : goal.returns-in-Some-clause-too_small
 returns-in-Some-clause-too_small g c =
     too_small_at c.args.limits.now
-        (g.P.Price.held_for c.args.price.now (g.P.Price.counts c.args.price.now)) c.in-Some.budget
+    (g.P.Price.held_for c.args.price.now (g.P.Price.counts c.args.price.now)) c.in-Some.budget
     c.bytes-needed.result
     (subst (λ (h : Held). IsOutermostBroken c.args.limits.now h c.in-Some.budget)
-        c.held-held.ensures c.in-Some.ensures)
+    c.held-held.ensures c.in-Some.ensures)
     (c.bytes-needed.ensures ∙ ap (λ (h : Held). held_in h c.in-Some.budget) c.held-held.ensures)
 
 pub allocate_within-requires-clause-within : goal.allocate_within-requires-clause-within
@@ -22,19 +22,19 @@ allocate_within-requires-clause-within g c =
 pub returns-in-Ok-clause-too_small : goal.returns-in-Ok-clause-too_small
 returns-in-Ok-clause-too_small g c =
     not_too_small c.args.limits.now
-        (g.P.Price.held_for c.args.price.now (g.P.Price.counts c.args.price.now)) _
+    (g.P.Price.held_for c.args.price.now (g.P.Price.counts c.args.price.now)) _
     (subst (λ (h : Held). IsWithin c.args.limits.now h) c.held-held.ensures c.in_default.ensures)
     (λ budget needed e. let bad : ⊥ = cc in bad)
 
 pub returns-in-Ok-clause-within : goal.returns-in-Ok-clause-within
 returns-in-Ok-clause-within g c =
     each_within c.args.limits.now
-        (g.P.Price.held_for c.args.price.now (g.P.Price.counts c.allocate_within.new.price))
+    (g.P.Price.held_for c.args.price.now (g.P.Price.counts c.allocate_within.new.price))
     (λ j below. c.in-Ok.ensures.certified.settled.kept.within j below)
 
 pub returns-in-Err-clause-too_small : goal.returns-in-Err-clause-too_small
 returns-in-Err-clause-too_small g c =
     not_too_small c.args.limits.now
-        (g.P.Price.held_for c.args.price.now (g.P.Price.counts c.args.price.now)) _
+    (g.P.Price.held_for c.args.price.now (g.P.Price.counts c.args.price.now)) _
     (subst (λ (h : Held). IsWithin c.args.limits.now h) c.held-held.ensures c.in_default.ensures)
     (λ budget needed e. let bad : ⊥ = cc in bad)

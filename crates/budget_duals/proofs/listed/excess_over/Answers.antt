@@ -10,14 +10,18 @@ pub overflow_add-sum : goal.overflow_add-sum
 overflow_add-sum c =
     let short = excess_short c.args.multiplier (take c.loop-step.step-index c.args.steps.now)
     (each_take (λ (s : Step). scale * s.gain < (c.args.multiplier + 1) * s.len) _ _
-        c.requires.untaken) in
-    omega (arith, short, length-take c.loop-step.step-index c.args.steps.now,
-        c.step-item.result.wide)
+    c.requires.untaken) in
+    omega (
+      arith,
+      short,
+      length-take c.loop-step.step-index c.args.steps.now,
+      c.step-item.result.wide,
+    )
 
 pub loop-step-preserved : goal.loop-step-preserved
 loop-step-preserved c =
     ap (λ (n : ℕ). n + c.saturating_sub-sum.result) c.loop-step.invariant
     ∙ (ap (λ (n : ℕ). excess_of c.args.multiplier (take c.loop-step.step-index c.args.steps.now)
-        + n) c.saturating_sub-sum.ensures
+    + n) c.saturating_sub-sum.ensures
     ∙ sym (excess_next c.args.multiplier c.args.steps.now c.loop-step.step-index c.step-item.result
-        c.loop-step-test.true c.step-item.is))
+    c.loop-step-test.true c.step-item.is))

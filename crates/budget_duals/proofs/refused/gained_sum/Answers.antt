@@ -10,7 +10,7 @@ gained-sum-requires-clause-small g c =
     let blocks : ℕ = g.O.Offers.blocks c.args.offers.now in
     let f : ℕ → ℕ = λ b. gains (g.O.Offers.done c.args.offers.now b) in
     let inside : c.loop-block.block < blocks = subst (λ n. c.loop-block.block < n)
-        c.count-block-end.ensures c.loop-block-test.true in
+    c.count-block-end.ensures c.loop-block-test.true in
     let one : f c.loop-block.block ≤ upto blocks f = one_fits blocks c.loop-block.block f inside in
     let small : upto blocks f < 2 ^ 90 = c.requires.small in
     omega arith

@@ -14,19 +14,19 @@ overflow_add-sum g c =
     let blocks : ℕ = g.O.Offers.blocks c.args.offers.now in
     let left : ℕ → List Step = g.O.Offers.left c.args.offers.now in
     let rate : ℕ → ℕ = rate_by c.args.tree.now c.args.closed.now
-        (g.H.Holdings.node_of c.args.held.now) in
+    (g.H.Holdings.node_of c.args.held.now) in
     let f : ℕ → ℕ = λ b. excess (rate b) (left b) in
     let k : ℕ = c.loop-block.block in
     let inside : k < blocks = subst (λ n. k < n) c.count-block-end.ensures c.loop-block-test.true in
     let value : c.rate_at.result ≡ rate k = c.rate_at.ensures.value
     ∙ ap (λ n. base (closed_by c.args.closed.now) (chain (around_in c.args.tree.now) n))
-        c.node.ensures in
+    c.node.ensures in
     let more : c.excess-sum.result ≡ f k = c.excess-sum.ensures.excess
     ∙ (ap (λ m. excess m (g.O.Offers.left c.loop-block.offers k)) value
     ∙ ap (λ (l : ℕ → List Step). excess (rate k) (l k)) c.loop-block.invariant.left) in
     let fits : upto k f + f k ≤ upto blocks (λ b. lens (left b)) =
     sum_fits blocks k f (λ b. lens (left b)) inside
-        (λ b lt. excess_lens (rate b) (left b) (c.requires.agree b lt).untaken) in
+    (λ b lt. excess_lens (rate b) (left b) (c.requires.agree b lt).untaken) in
     let sum : c.loop-block.sum ≡ upto k f = c.loop-block.invariant.sum in
     let few : upto blocks (λ b. lens (left b)) < 2 ^ 64 = c.requires.few in
     omega arith
@@ -36,7 +36,7 @@ returns-clause-small g c =
     let blocks : ℕ = g.O.Offers.blocks c.args.offers.now in
     let left : ℕ → List Step = g.O.Offers.left c.args.offers.now in
     let rate : ℕ → ℕ = rate_by c.args.tree.now c.args.closed.now
-        (g.H.Holdings.node_of c.args.held.now) in
+    (g.H.Holdings.node_of c.args.held.now) in
     let f : ℕ → ℕ = λ b. excess (rate b) (left b) in
     let k : ℕ = c.loop-block.block in
     let end = c.loop-block.auto.block-end in
@@ -44,7 +44,7 @@ returns-clause-small g c =
     let within : k ≤ blocks = subst (λ n. k ≤ n) c.count-block-end.ensures upto_end in
     let fits : upto k f ≤ upto blocks (λ b. lens (left b)) =
     part_fits blocks k f (λ b. lens (left b)) within
-        (λ b lt. excess_lens (rate b) (left b) (c.requires.agree b lt).untaken) in
+    (λ b lt. excess_lens (rate b) (left b) (c.requires.agree b lt).untaken) in
     let sum : c.loop-block.sum ≡ upto k f = c.loop-block.invariant.sum in
     let few : upto blocks (λ b. lens (left b)) < 2 ^ 64 = c.requires.few in
     omega arith

@@ -13,5 +13,5 @@ invariant-loop-block g l = record {
   keeps : g.O.Offers.stays l.fn.offers l.offers;
   sum : l.sum ≡ upto l.block
       (λ b. excess (rate_by l.tree l.closed (g.H.Holdings.node_of l.held) b)
-          (g.O.Offers.left l.fn.offers b));
+      (g.O.Offers.left l.fn.offers b));
 }

@@ -20,7 +20,7 @@ overflow_add-sum g c =
     let before : upto k (λ j. m j * (limit j - held j)) ≤ k * 2 ^ 121 =
     upto_small k (λ j. m j * (limit j - held j))
     (λ j lt. worth_fits (m j) (limit j) (held j) (c.requires.small j (omega arith))
-        (c.requires.limits j (omega arith))) in
+    (c.requires.limits j (omega arith))) in
     let sum : c.loop-j.sum ≡ upto k (λ j. m j * (limit j - held j)) = c.loop-j.invariant in
     let hundred = c.requires.few in
     omega arith
@@ -38,7 +38,7 @@ returns-clause-small g c =
     let before : upto k (λ j. m j * (limit j - held j)) ≤ k * 2 ^ 121 =
     upto_small k (λ j. m j * (limit j - held j))
     (λ j lt. worth_fits (m j) (limit j) (held j) (c.requires.small j (omega arith))
-        (c.requires.limits j (omega arith))) in
+    (c.requires.limits j (omega arith))) in
     let sum : c.loop-j.sum ≡ upto k (λ j. m j * (limit j - held j)) = c.loop-j.invariant in
     let hundred = c.requires.few in
     omega arith

@@ -9,8 +9,8 @@ loop-j-preserved c =
     let l = c.args.budgets.now in
     let i = c.loop-j.j-index in
     c.broken_or-found.ensures ∙
-        (ap (last_of (if nat_lt (number_at c.args.limits.now (get_or l i 0))
-            (number_at c.args.held.now (get_or l i 0)) then Some (get_or l i 0) else None))
-                c.loop-j.invariant
+    (ap (last_of (if nat_lt (number_at c.args.limits.now (get_or l i 0))
+    (number_at c.args.held.now (get_or l i 0)) then Some (get_or l i 0) else None))
+    c.loop-j.invariant
     ∙ sym (outermost_more (number_at c.args.limits.now) (number_at c.args.held.now) l i
-        c.loop-j-test.true))
+    c.loop-j-test.true))

@@ -20,12 +20,12 @@ invariant-loop-entry g l = record {
   going : IsGoing (budgets_of l.tree (g.O.Offers.blocks l.fn.offers)
       (g.H.Holdings.node_of l.fn.held) (g.H.Holdings.held_by l.fn.held))
       (g.O.Offers.left l.fn.offers)
-          (so_far (g.H.Holdings.chosen l.held) (g.O.Offers.done l.offers) (g.O.Offers.left l.offers)
-              l.closed)
+      (so_far (g.H.Holdings.chosen l.held) (g.O.Offers.done l.offers) (g.O.Offers.left l.offers)
+      l.closed)
       (g.O.Offers.offered l.offers) (heap_items l.heap);
 }
 
 abbrev pub decreases-loop-entry : goal.decreases-loop-entry
 decreases-loop-entry g l =
     ahead (g.O.Offers.blocks l.fn.offers) (g.O.Offers.left l.offers) l.closed
-        (g.O.Offers.unknown l.offers) + heap_len l.heap
+    (g.O.Offers.unknown l.offers) + heap_len l.heap

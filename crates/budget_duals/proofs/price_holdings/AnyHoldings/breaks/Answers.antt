@@ -14,12 +14,12 @@ returns g c =
     let around : ℕ → List ℕ = around_in c.args.tree.now in
     let node : ℕ = c.node_number-node.result in
     let after : Held = g.P.Price.held_for c.args.self.now
-        (set (g.P.Price.counts c.args.self.now) c.args.step.now.block c.args.step.now.to) in
+    (set (g.P.Price.counts c.args.self.now) c.args.step.now.block c.args.step.now.to) in
     c.outermost_broken.ensures
     ∙ (outermost_same limit
     (number_at (h.frame ∷ h.inner ∷ slice_index_or h.component 0 0 ∷ slice_index_or h.component 1 0
-        ∷ slice_index_or h.component 2 0 ∷ []))
+    ∷ slice_index_or h.component 2 0 ∷ []))
     (bytes_in h) (listed_bytes h) (chain around node)
     ∙ (ap (λ (k : Held). outermost limit (bytes_in k) (chain around node)) c.after-held.ensures
     ∙ ap (λ (n : ℕ). outermost limit (bytes_in after) (chain around n))
-        (c.node_number-node.ensures ∙ ap node_in c.inside.ensures)))
+    (c.node_number-node.ensures ∙ ap node_in c.inside.ensures)))
