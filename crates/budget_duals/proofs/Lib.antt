@@ -14,4 +14,5 @@ pub mod SplitLemmas
 pub mod SumLemmas
 pub mod TooSmall
 pub mod TreeLemmas
+pub mod TwoReady
 pub mod WalkLemmas
