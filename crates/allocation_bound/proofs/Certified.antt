@@ -10,7 +10,8 @@ use Rattle.allocation_bound.specs.Refused.{ledger, slack, over}
 use Rattle.allocation_bound.specs.Laws.{AreSteps, HasCertificate}
 use Rattle.allocation_bound.proofs.Gaps.{gap_once, unused_worth}
 use Rattle.allocation_bound.proofs.Levels.{agreement}
-use Rattle.allocation_bound.proofs.Prices.{walk_gap, walk_rivals, gap_below_prices, no_gap, refused_step, over_is_excess}
+use Rattle.allocation_bound.proofs.Prices.{walk_gap, walk_rivals, gap_below_prices, no_gap}
+use Rattle.allocation_bound.proofs.Prices.{refused_step, over_is_excess}
 use Rattle.allocation_bound.proofs.SumLemmas.{upto_same}
 
 falls_later : (g n : ℕ) (done left : List Step) → FallFrom g n (done ++ left) → IsFalling left
@@ -27,11 +28,11 @@ pub certified : (w : Budgets) (steps : ℕ → List Step) (o : Outcome) → AreB
     → IsSettled w steps o → HasCertificate w steps o
 certified w steps o budgets are h =
     let same : upto w.blocks (over w steps o)
-        ≡ upto w.blocks (λ b. excess (block_rate w o b) (o.left b)) =
+    ≡ upto w.blocks (λ b. excess (block_rate w o b) (o.left b)) =
     upto_same w.blocks (over w steps o) (λ b. excess (block_rate w o b) (o.left b))
     (λ b inside. over_is_excess w budgets steps o h b inside
     (falls_left (o.done b) (o.left b)
-        (subst IsFalling (sym (h.kept.splits b inside)) (are.fall b inside)))) in
+    (subst IsFalling (sym (h.kept.splits b inside)) (are.fall b inside)))) in
     record {
       agree = agreement w budgets steps o h;
       gap = subst (λ (n : ℕ). IsGap (ledger w steps o)

@@ -1,5 +1,7 @@
--- Closing a budget keeps what stands between moves. This is where it matters that budgets are nested.
-use Rattle.std.proofs.Common.{ℕ, ◌≡◌, ◌<◌, ◌⊎◌, List, [], ◌∷◌, set, Option, Some, None, refl, sym, ap, subst, ◌∙◌, inl, inr}
+-- Closing a budget keeps what stands between moves. This is where it matters that budgets are
+-- nested.
+use Rattle.std.proofs.Common.{ℕ, ◌≡◌, ◌<◌, ◌⊎◌, List, [], ◌∷◌, set, Option, Some, None, refl, sym}
+use Rattle.std.proofs.Common.{ap, subst, ◌∙◌, inl, inr}
 use Rattle.std.proofs.lemmas.Bool.{cases_eq}
 use Rattle.std.proofs.lemmas.Option.{none-some, same_Some}
 use Rattle.std.specs.List.{AllByRecursion}
@@ -29,8 +31,8 @@ first_none_around around closed j (i ∷ r) h n on = elim (cases_option (closed 
   | inr (s, e) ↦ absurd (none-some _ (sym n ∙ first_closed closed i r s e))
 ]
 
--- Once j is closed by s, with nothing around it closed, the first closed budget of a chain is as before,
--- or there was none and it is j.
+-- Once j is closed by s, with nothing around it closed, the first closed budget of a chain is as
+-- before, or there was none and it is j.
 moved : (around : ℕ → List ℕ) (old new : ℕ → Option Step) (j : ℕ) (s : Step) → old j ≡ None
     → first old (around j) ≡ None → new j ≡ Some s → ((i : ℕ) → ¬ (i ≡ j) → new i ≡ old i)
     → (c : List ℕ) → IsChain around c
@@ -57,7 +59,7 @@ moved around old new j s was_open outer closed other (k ∷ r) h = elim (cases_e
 
 module _ (w : Budgets) (budgets : AreBudgets w) (steps : ℕ → List Step) (front : Step) (o : Outcome)
     (h : Stands w steps front o) (s : Step) (rest : List Step) (j : ℕ) (n : Outcome)
-        (t : Closes w o s rest j n) where
+    (t : Closes w o s rest j n) where
   chain_of : (b : ℕ) → IsChain w.around (chain w.around (w.node b))
   chain_of b = chain_is_chain w.around budgets.nested (w.node b)
 
@@ -67,15 +69,18 @@ module _ (w : Budgets) (budgets : AreBudgets w) (steps : ℕ → List Step) (fro
       moved w.around o.closed n.closed j s
       (first_none o.closed j (chain w.around (w.node s.block)) t.next.open_block t.on)
       (first_none_around w.around o.closed j (chain w.around (w.node s.block)) (chain_of s.block)
-          t.next.open_block t.on)
+      t.next.open_block t.on)
       t.closed t.other_closed c ch
 
   -- a closing step is an old one or the new one
   old_or_new : (i : ℕ) (u : Step) → n.closed i ≡ Some u
       → (o.closed i ≡ Some u) ⊎ ((i ≡ j) × (u ≡ s))
   old_or_new i u e = elim (cases_eq i j) [
-    | inl same ↦ inr (same, same_Some u s
-        (sym e ∙ subst (λ k. n.closed k ≡ Some s) (sym same) t.closed))
+    | inl same ↦ inr (
+      same,
+      same_Some u s
+          (sym e ∙ subst (λ k. n.closed k ≡ Some s) (sym same) t.closed),
+    )
     | inr ne ↦ inl (sym (t.other_closed i ne) ∙ e)
   ]
 
@@ -84,8 +89,11 @@ module _ (w : Budgets) (budgets : AreBudgets w) (steps : ℕ → List Step) (fro
       → (first o.closed c ≡ Some x) ⊎ ((first o.closed c ≡ None) × (s ≡ x.step))
   first_old_or_new c ch x e = elim (shut_moved c ch) [
     | inl same ↦ inl (sym same ∙ e)
-    | inr both ↦ inr (both.0, ap (λ (y : Closed). y.step)
-        (same_Some (record { budget = j; step = s }) x (sym both.1 ∙ e)))
+    | inr both ↦ inr (
+      both.0,
+      ap (λ (y : Closed). y.step)
+          (same_Some (record { budget = j; step = s }) x (sym both.1 ∙ e)),
+    )
   ]
 
   still_none : (c : List ℕ) → IsChain w.around c → first n.closed c ≡ None → first o.closed c ≡ None
@@ -105,7 +113,7 @@ module _ (w : Budgets) (budgets : AreBudgets w) (steps : ℕ → List Step) (fro
   new_closing = elim (shut_moved (chain w.around (w.node s.block)) (chain_of s.block)) [
     | inl same ↦ absurd (none-some s
         (sym (first_none n.closed j (chain w.around (w.node s.block)) (same ∙ t.next.open_block)
-            t.on) ∙ t.closed))
+        t.on) ∙ t.closed))
     | inr both ↦ both.1
   ]
 
@@ -133,7 +141,7 @@ module _ (w : Budgets) (budgets : AreBudgets w) (steps : ℕ → List Step) (fro
     | inr both ↦ subst (λ v. nearest w n v.block ≡ Some (record { budget = i; step = v }))
         (sym both.1)
         (subst (λ k. nearest w n s.block ≡ Some (record { budget = k; step = s })) (sym both.0)
-            new_closing)
+        new_closing)
   ]
 
   shut_refused : (i : ℕ) (u : Step) → n.closed i ≡ Some u → w.limit i < w.held (with_step n u) i
@@ -155,15 +163,15 @@ module _ (w : Budgets) (budgets : AreBudgets w) (steps : ℕ → List Step) (fro
       → IsAsSteep u x.step
   shut_outer i u x e f = elim
       (first_old_or_new (w.around i) (around_is_chain w.around budgets.nested i) x f) [
-    | inr new ↦ subst (λ v. IsAsSteep u v) new.1 (shut_steep i u e)
-    | inl g ↦ elim (old_or_new i u e) [
-      | inl old ↦ h.kept.outer i u x old g
-      | inr both ↦ absurd (none-some x
-          (sym (first_none_around w.around o.closed j (chain w.around (w.node s.block))
+        | inr new ↦ subst (λ v. IsAsSteep u v) new.1 (shut_steep i u e)
+        | inl g ↦ elim (old_or_new i u e) [
+          | inl old ↦ h.kept.outer i u x old g
+          | inr both ↦ absurd (none-some x
+              (sym (first_none_around w.around o.closed j (chain w.around (w.node s.block))
               (chain_of s.block) t.next.open_block t.on)
-          ∙ subst (λ k. first o.closed (w.around k) ≡ Some x) both.0 g))
-    ]
-  ]
+              ∙ subst (λ k. first o.closed (w.around k) ≡ Some x) both.0 g))
+        ]
+      ]
 
   shut_taken : (b : ℕ) (x : Closed) → b < w.blocks → nearest w n b ≡ Some x
       → AllByRecursion (λ (v : Step). IsAsSteep v x.step) (n.done b)
@@ -200,7 +208,7 @@ module _ (w : Budgets) (budgets : AreBudgets w) (steps : ℕ → List Step) (fro
     };
     done = λ b inside e. rw (t.done b)
         (done_steep w budgets steps front o h s rest t.next b inside
-            (still_none (chain w.around (w.node b)) (chain_of b) e));
+        (still_none (chain w.around (w.node b)) (chain_of b) e));
     left = λ b inside e. rw (t.left b)
         (t.next.steepest b inside (still_none (chain w.around (w.node b)) (chain_of b) e));
     rest = shut_steep;

@@ -1,5 +1,6 @@
 -- The least cost over the splits of a hull's steps is the least over all pass counts.
-use Rattle.std.proofs.Common.{ℕ, suc, zero, ◌≡◌, ◌+◌, ◌*◌, ◌<◌, ◌≤◌, List, [], ◌∷◌, ◌++◌, length, refl, ap, subst, arith, inl, inr}
+use Rattle.std.proofs.Common.{ℕ, suc, zero, ◌≡◌, ◌+◌, ◌*◌, ◌<◌, ◌≤◌, List, [], ◌∷◌, ◌++◌, length}
+use Rattle.std.proofs.Common.{refl, ap, subst, arith, inl, inr}
 use Rattle.std.proofs.lemmas.Bool.{cases_lt}
 use Rattle.std.proofs.Math.Nat.{min-eq_left, min-eq_right, mul-le-mul_left}
 use Rattle.rd_hulls.specs.declared.point.Point.{Point}
@@ -17,7 +18,7 @@ gained : (b : ℕ) (points : List Point) (c : ℕ) (steps : List Step) → Follo
 gained b points c [] h = omega arith
 gained b points c (s ∷ r) h =
     let e : (point_at points s.to).dist ≡ gains r
-        + (point_at points (end_of s.to r)).dist = gained b points s.to r h.1 in
+    + (point_at points (end_of s.to r)).dist = gained b points s.to r h.1 in
     let g : (point_at points s.to).dist + s.gain ≡ (point_at points c).dist = h.0.step.gain in
     omega arith
 
@@ -40,12 +41,12 @@ best_at_end b points m c s h steep k inside short =
     let same : (point_at points c).dist * s.len + s.gain * (point_at points c).len
     ≡ (point_at points s.to).dist * s.len + s.gain * (point_at points s.to).len =
     same_height (point_at points s.to).dist (point_at points s.to).len (point_at points c).dist
-        (point_at points c).len s.len s.gain
+    (point_at points c).len s.len s.gain
     h.step.gain h.step.len in
     let line : (point_at points c).dist * s.len + s.gain * (point_at points c).len
     ≤ (point_at points k).dist * s.len + s.gain * (point_at points k).len = h.line k inside in
     left m s.len s.gain (point_at points s.to).len (point_at points s.to).dist
-        (point_at points k).len (point_at points k).dist
+    (point_at points k).len (point_at points k).dist
     s.longer steep (omega arith) short
 
 -- the beginning of a step whose slope is at most m costs least of all
@@ -54,48 +55,48 @@ best_of_all : (b : ℕ) (points : List Point) (m c : ℕ) (s : Step) → IsHullS
     → term m (point_at points c) ≤ term m (point_at points k)
 best_of_all b points m c s h flat so_far k inside = elim
     (cases_lt (point_at points c).len (point_at points k).len) [
-  | inl l ↦ (let longer : (point_at points c).len ≤ (point_at points k).len = omega arith in
-      right m s.len s.gain (point_at points c).len (point_at points c).dist (point_at points k).len
+      | inl l ↦ (let longer : (point_at points c).len ≤ (point_at points k).len = omega arith in
+          right m s.len s.gain (point_at points c).len (point_at points c).dist (point_at points k).len
           (point_at points k).dist
-      s.longer flat (h.line k inside) longer)
-  | inr g ↦ so_far k inside g
-]
+          s.longer flat (h.line k inside) longer)
+      | inr g ↦ so_far k inside g
+    ]
 
 least_from : (b : ℕ) (points : List Point) (m c : ℕ) (steps : List Step)
     → FollowFrom b points c steps
     → ((k : ℕ) → k < length points → (point_at points (end_of c steps)).dist
-        ≤ (point_at points k).dist)
+    ≤ (point_at points k).dist)
     → IsBestSoFar points m c → (k : ℕ) → k < length points
     → best m steps + scale * (point_at points (end_of c steps)).dist + m * (point_at points c).len
-        ≤ term m (point_at points k)
+    ≤ term m (point_at points k)
 least_from b points m c [] h lowest so_far k inside = elim
     (cases_lt (point_at points c).len (point_at points k).len) [
-  | inl l ↦ (let d : (point_at points c).dist ≤ (point_at points k).dist = lowest k inside in
-      let longer : (point_at points c).len ≤ (point_at points k).len = omega arith in
-      let w : m * (point_at points c).len
+      | inl l ↦ (let d : (point_at points c).dist ≤ (point_at points k).dist = lowest k inside in
+          let longer : (point_at points c).len ≤ (point_at points k).len = omega arith in
+          let w : m * (point_at points c).len
           ≤ m * (point_at points k).len = mul-le-mul_left m longer in
-      omega arith)
-  | inr g ↦ (let t : term m (point_at points c)
-      ≤ term m (point_at points k) = so_far k inside g in omega arith)
-]
+          omega arith)
+      | inr g ↦ (let t : term m (point_at points c)
+          ≤ term m (point_at points k) = so_far k inside g in omega arith)
+    ]
 least_from b points m c (s ∷ r) h lowest so_far k inside = elim
     (cases_lt (scale * s.gain) (m * s.len)) [
-  | inl l ↦ (let flat : scale * s.gain ≤ m * s.len = omega arith in
-      let t : term m (point_at points c)
+      | inl l ↦ (let flat : scale * s.gain ≤ m * s.len = omega arith in
+          let t : term m (point_at points c)
           ≤ term m (point_at points k) = best_of_all b points m c s h.0 flat so_far k inside in
-      let n : best m (s ∷ r) ≤ scale * gains (s ∷ r) = best_at_none m (s ∷ r) in
-      let g : (point_at points c).dist ≡ gains (s ∷ r)
+          let n : best m (s ∷ r) ≤ scale * gains (s ∷ r) = best_at_none m (s ∷ r) in
+          let g : (point_at points c).dist ≡ gains (s ∷ r)
           + (point_at points (end_of s.to r)).dist = gained b points c (s ∷ r) h in
-      omega arith)
-  | inr steep ↦ (let i : best m r + scale * (point_at points (end_of s.to r)).dist
-      + m * (point_at points s.to).len
-      ≤ term m (point_at points k) =
-      least_from b points m s.to r h.1 lowest (best_at_end b points m c s h.0 steep) k inside in
-      let n : best m (s ∷ r) ≤ m * s.len + best m r = best_after m s r in
-      let longer : m * ((point_at points c).len + s.len)
+          omega arith)
+      | inr steep ↦ (let i : best m r + scale * (point_at points (end_of s.to r)).dist
+          + m * (point_at points s.to).len
+          ≤ term m (point_at points k) =
+          least_from b points m s.to r h.1 lowest (best_at_end b points m c s h.0 steep) k inside in
+          let n : best m (s ∷ r) ≤ m * s.len + best m r = best_after m s r in
+          let longer : m * ((point_at points c).len + s.len)
           ≡ m * (point_at points s.to).len = ap (λ n. m * n) h.0.step.len in
-      omega arith)
-]
+          omega arith)
+    ]
 
 none_first : (points : List Point) (m : ℕ) → ArePoints points → IsBestSoFar points m 0
 none_first points m are zero inside short = omega arith
@@ -111,7 +112,7 @@ pub least_over_counts : (b : ℕ) (points : List Point) (m : ℕ) (steps : List 
     → best m steps + scale * (point_at points (end_of 0 steps)).dist ≤ term m (point_at points k)
 least_over_counts b points m steps are h k inside =
     let i : best m steps + scale * (point_at points (end_of 0 steps)).dist
-        + m * (point_at points 0).len ≤ term m (point_at points k) =
+    + m * (point_at points 0).len ≤ term m (point_at points k) =
     least_from b points m 0 steps h.follow h.lowest.least (none_first points m are) k inside in
     omega arith
 
@@ -128,15 +129,15 @@ least_reached : (b : ℕ) (points : List Point) (m c : ℕ) (steps : List Step) 
 least_reached b points m c [] inside h = record { count = c; inside = inside; costs = omega arith }
 least_reached b points m c (s ∷ r) inside h =
     let g : (point_at points c).dist ≡ gains (s ∷ r)
-        + (point_at points (end_of s.to r)).dist = gained b points c (s ∷ r) h in
+    + (point_at points (end_of s.to r)).dist = gained b points c (s ∷ r) h in
     elim (cases_lt (m * s.len + best m r) (scale * gains (s ∷ r))) [
       | inl l ↦ (let i : IsLeastFrom points m s.to r = least_reached b points m s.to r h.0.within
           h.1 in
           let e : term m (point_at points i.count)
           ≡ best m r + scale * (point_at points (end_of s.to r)).dist
-              + m * (point_at points s.to).len = i.costs in
+          + m * (point_at points s.to).len = i.costs in
           let longer : m * ((point_at points c).len + s.len)
-              ≡ m * (point_at points s.to).len = ap (λ n. m * n) h.0.step.len in
+          ≡ m * (point_at points s.to).len = ap (λ n. m * n) h.0.step.len in
           let n : best m (s ∷ r) ≡ m * s.len + best m r = min-eq_right (omega arith) in
           record { count = i.count; inside = i.inside; costs = omega arith })
       | inr k ↦ (let n : best m (s ∷ r) ≡ scale * gains (s ∷ r) = min-eq_left k in
@@ -155,14 +156,14 @@ pub split_bytes : (b : ℕ) (points : List Point) (c : ℕ) (done left : List St
 split_bytes b points c [] left h = omega arith
 split_bytes b points c (s ∷ d) left h =
     let i : (point_at points (end_of s.to d)).len ≡ (point_at points s.to).len
-        + lens d = split_bytes b points s.to d left h.1 in
+    + lens d = split_bytes b points s.to d left h.1 in
     let e : (point_at points c).len + s.len ≡ (point_at points s.to).len = h.0.step.len in
     omega arith
 
 pub split_dist : (b : ℕ) (points : List Point) (c : ℕ) (done left : List Step)
     → FollowFrom b points c (done ++ left)
     → (point_at points (end_of c done)).dist ≡ gains left
-        + (point_at points (end_of c (done ++ left))).dist
+    + (point_at points (end_of c (done ++ left))).dist
 split_dist b points c [] left h = gained b points c left h
 split_dist b points c (s ∷ d) left h = split_dist b points s.to d left h.1
 
@@ -176,7 +177,7 @@ whole_bytes : (b : ℕ) (points : List Point) (c : ℕ) (steps : List Step)
 whole_bytes b points c [] h = omega arith
 whole_bytes b points c (s ∷ r) h =
     let i : (point_at points (end_of s.to r)).len ≡ (point_at points s.to).len
-        + lens r = whole_bytes b points s.to r h.1 in
+    + lens r = whole_bytes b points s.to r h.1 in
     let e : (point_at points c).len + s.len ≡ (point_at points s.to).len = h.0.step.len in
     omega arith
 
@@ -187,24 +188,24 @@ pub block_term : (b : ℕ) (points : List Point) (m : ℕ) (done left : List Ste
 block_term b points m done left are h a k inside =
     let z : (point_at points 0).len ≡ 0 = (are.each 0 are.first).none refl in
     let e : (point_at points (end_of 0 done)).len ≡ (point_at points 0).len
-        + lens done = split_bytes b points 0 done left h.follow in
+    + lens done = split_bytes b points 0 done left h.follow in
     let f : m * (point_at points (end_of 0 done)).len ≡ m * lens done =
     ap (λ n. m * n) (let w : (point_at points (end_of 0 done)).len ≡ lens done = omega arith in w)
-        in
+    in
     let d : (point_at points (end_of 0 done)).dist ≡ gains left
-        + (point_at points (end_of 0 (done ++ left))).dist =
+    + (point_at points (end_of 0 (done ++ left))).dist =
     split_dist b points 0 done left h.follow in
     let l : best m (done ++ left) + scale * (point_at points (end_of 0 (done ++ left))).dist
-        ≤ term m (point_at points k) =
+    ≤ term m (point_at points k) =
     least_over_counts b points m (done ++ left) are h k inside in
     let x : cost m done left + length left ≤ best m (done ++ left)
-        + lens left = excess_over_prefixes m done left a in
+    + lens left = excess_over_prefixes m done left a in
     let n : lens left ≤ lens (done ++ left) = lens_within done left in
     let all : (point_at points (end_of 0 (done ++ left))).len ≡ (point_at points 0).len
-        + lens (done ++ left) =
+    + lens (done ++ left) =
     whole_bytes b points 0 (done ++ left) h.follow in
     let few : (point_at points (end_of 0 (done ++ left))).len
-        ≤ 131072 = (are.each (end_of 0 (done ++ left)) h.lowest.within).short in
+    ≤ 131072 = (are.each (end_of 0 (done ++ left)) h.lowest.within).short in
     omega arith
 
 next_hull_step : (b : ℕ) (points : List Point) (c : ℕ) (done : List Step) (s : Step) (r : List Step)
@@ -219,4 +220,4 @@ pub head_hull_step : (b : ℕ) (points : List Point) (s : Step) (done left : Lis
 head_hull_step b points s done [] head h = absurd head
 head_hull_step b points s done (t ∷ r) head h =
     subst (λ (u : Step). IsHullStep b points (end_of 0 done) u) head
-        (next_hull_step b points 0 done t r h)
+    (next_hull_step b points 0 done t r h)

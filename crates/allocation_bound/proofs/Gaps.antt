@@ -4,9 +4,12 @@ use Rattle.std.proofs.Math.Nat.{mul-le-mul_left}
 use Rattle.allocation_bound.specs.Steps.{scale}
 use Rattle.allocation_bound.specs.Sums.{upto}
 use Rattle.allocation_bound.specs.Budgets.{IsNested}
-use Rattle.allocation_bound.specs.Ledger.{Ledger, rate_of, distortion, body_of, FitsBeside, least_terms, held_worth, limit_worth, IsBelow, IsGap, rounded_up}
+use Rattle.allocation_bound.specs.Ledger.{Ledger, rate_of, distortion, body_of, FitsBeside}
+use Rattle.allocation_bound.specs.Ledger.{least_terms, held_worth, limit_worth, IsBelow, IsGap}
+use Rattle.allocation_bound.specs.Ledger.{rounded_up}
 use Rattle.allocation_bound.proofs.Products.{up_reaches, up_least}
-use Rattle.allocation_bound.proofs.SumLemmas.{exchange, upto_le, upto_same, upto_add, upto_scaled, worth_add}
+use Rattle.allocation_bound.proofs.SumLemmas.{exchange, upto_le, upto_same, upto_add, upto_scaled}
+use Rattle.allocation_bound.proofs.SumLemmas.{worth_add}
 
 -- the worth of what budgets have unused
 abbrev pub unused_worth : Ledger → (ℕ → ℕ) → ℕ
@@ -18,7 +21,8 @@ split_limit m limit body held slack e = ap (λ n. m * n) (omega arith)
 
 module _ (l : Ledger) (nested : IsNested l.around)
     (inside : (b : ℕ) → b < l.blocks → l.node b < l.number) where
-  -- what a choice costs, block by block, is its distortion and, budget by budget, the worth of its bytes
+  -- what a choice costs, block by block, is its distortion and, budget by budget, the worth of its
+  -- bytes
   costs : (dist bytes : ℕ → ℕ) → upto l.blocks (λ b. scale * dist b + rate_of l b * bytes b)
       ≡ scale * upto l.blocks dist + upto l.number (λ j. l.multipliers j * body_of l bytes j)
   costs dist bytes =
@@ -26,7 +30,7 @@ module _ (l : Ledger) (nested : IsNested l.around)
       upto l.blocks (λ b. scale * dist b) + upto l.blocks (λ b. rate_of l b * bytes b) =
       upto_add l.blocks (λ b. scale * dist b) (λ b. rate_of l b * bytes b) in
       let d : upto l.blocks (λ b. scale * dist b)
-          ≡ scale * upto l.blocks dist = upto_scaled l.blocks dist in
+      ≡ scale * upto l.blocks dist = upto_scaled l.blocks dist in
       let e : upto l.blocks (λ b. rate_of l b * bytes b) ≡
       upto l.number (λ j. l.multipliers j * body_of l bytes j) =
       exchange l.around nested l.number l.node l.multipliers bytes l.blocks inside in
@@ -47,7 +51,7 @@ module _ (l : Ledger) (nested : IsNested l.around)
       upto l.number (λ j. l.multipliers j * body_of l bytes j) + held_worth l =
       worth_add l.number l.multipliers (body_of l bytes) l.held in
       let m : upto l.number (λ j. l.multipliers j * (body_of l bytes j + l.held j))
-          ≤ limit_worth l =
+      ≤ limit_worth l =
       upto_le l.number (λ j. l.multipliers j * (body_of l bytes j + l.held j))
       (λ j. l.multipliers j * (l.limit j + body_of l l.bytes j))
       (λ j lt. mul-le-mul_left (l.multipliers j) (fits j lt)) in
@@ -67,7 +71,7 @@ module _ (l : Ledger) (nested : IsNested l.around)
       let t : upto l.blocks (λ b. scale * l.dist b + rate_of l b * l.bytes b) ≡
       upto l.blocks (λ b. l.least b + over b) =
       upto_same l.blocks (λ b. scale * l.dist b + rate_of l b * l.bytes b) (λ b. l.least b + over b)
-          terms in
+      terms in
       let a : upto l.blocks (λ b. l.least b + over b) ≡ least_terms l + upto l.blocks over =
       upto_add l.blocks l.least over in
       let r : limit_worth l ≡
@@ -75,7 +79,7 @@ module _ (l : Ledger) (nested : IsNested l.around)
       upto_same l.number (λ j. l.multipliers j * (l.limit j + body_of l l.bytes j))
       (λ j. l.multipliers j * (l.held j + (slack j + body_of l l.bytes j)))
       (λ j lt. split_limit (l.multipliers j) (l.limit j) (body_of l l.bytes j) (l.held j) (slack j)
-          (unused j lt)) in
+      (unused j lt)) in
       let p : upto l.number (λ j. l.multipliers j * (l.held j + (slack j + body_of l l.bytes j))) ≡
       held_worth l + upto l.number (λ j. l.multipliers j * (slack j + body_of l l.bytes j)) =
       worth_add l.number l.multipliers l.held (λ j. slack j + body_of l l.bytes j) in
@@ -95,7 +99,7 @@ module _ (l : Ledger) (nested : IsNested l.around)
       record {
         enough = (let u : sum
             ≤ scale * rounded_up sum = up_reaches sum (rounded_up sum) (omega arith) in omega
-                arith);
+            arith);
         least = λ g h. up_least sum g (omega arith);
       }
 

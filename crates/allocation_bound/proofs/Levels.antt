@@ -1,13 +1,16 @@
--- Levels are nested, so that the multipliers around a block add up to the level of its nearest closed
--- budget.
-use Rattle.std.proofs.Common.{ℕ, ◌≡◌, ◌+◌, ◌-◌, ◌*◌, ◌<◌, ◌≤◌, List, [], ◌∷◌, Option, Some, None, refl, sym, ap, subst, ◌∙◌, arith, inl, inr}
+-- Levels are nested, so that the multipliers around a block add up to the level of its nearest
+-- closed budget.
+use Rattle.std.proofs.Common.{ℕ, ◌≡◌, ◌+◌, ◌-◌, ◌*◌, ◌<◌, ◌≤◌, List, [], ◌∷◌, Option, Some, None}
+use Rattle.std.proofs.Common.{refl, sym, ap, subst, ◌∙◌, arith, inl, inr}
 use Rattle.std.proofs.lemmas.Nat.{le-div}
 use Rattle.std.proofs.lemmas.Option.{none-some, same_Some}
 use Rattle.rd_hulls.specs.declared.step.Step.{Step}
 use Rattle.allocation_bound.specs.Sums.{total}
 use Rattle.allocation_bound.specs.Steps.{scale, IsAsSteep, Agrees, level}
-use Rattle.allocation_bound.specs.Budgets.{IsChain, IsOn, Closed, chain, nearer, first, base, level_of, above_base, multiplier}
-use Rattle.allocation_bound.specs.Settled.{Budgets, AreBudgets, Outcome, IsSettled, nearest, block_rate}
+use Rattle.allocation_bound.specs.Budgets.{IsChain, IsOn, Closed, chain, nearer, first, base}
+use Rattle.allocation_bound.specs.Budgets.{level_of, above_base, multiplier}
+use Rattle.allocation_bound.specs.Settled.{Budgets, AreBudgets, Outcome, IsSettled, nearest}
+use Rattle.allocation_bound.specs.Settled.{block_rate}
 use Rattle.allocation_bound.proofs.Products.{below, above, level_low, level_high, levels_fall}
 use Rattle.allocation_bound.proofs.Chains.{chain_is_chain}
 use Rattle.allocation_bound.proofs.Lists.{cases_option, all_weaker, all_any}
@@ -29,7 +32,7 @@ first_is closed (j ∷ r) x e = elim (cases_option (closed j)) [
   | inr (s, c) ↦ (let p : (record { budget = j; step = s }) ≡ x =
       same_Some _ x (sym (first_closed closed j r s c) ∙ e) in
       subst (λ (y : Closed). (closed y.budget ≡ Some y.step) × IsOn y.budget (j ∷ r)) p
-          (c, inl refl))
+      (c, inl refl))
 ]
 
 pub multiplier_open : (around : ℕ → List ℕ) (closed : ℕ → Option Step) (j : ℕ) → closed j ≡ None
@@ -107,7 +110,7 @@ module _ (w : Budgets) (budgets : AreBudgets w) (steps : ℕ → List Step) (o :
               (o.done b) (h.kept.taken b x inside f);
           untaken = all_weaker (IsAsSteep u) (λ (t : Step). scale * t.gain < (level u + 1) * t.len)
               (λ t p. above (level u) u.len u.gain t.len t.gain u.longer t.longer p
-                  (level_high u.gain u.len u.longer))
+              (level_high u.gain u.len u.longer))
               (o.left b) (h.kept.untaken b x inside f);
         }))
   ]

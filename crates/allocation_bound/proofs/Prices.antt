@@ -1,5 +1,7 @@
 -- Refused steps: what stands of them at the end, and how their prices bound the gap.
-use Rattle.std.proofs.Common.{ℕ, ◌≡◌, ◌+◌, ◌-◌, ◌*◌, ◌<◌, ◌≤◌, ◌==◌, if◌then◌else◌, List, [], ◌∷◌, ◌++◌, length, Option, Some, refl, sym, ap, subst, ◌∙◌, arith, inl, inr}
+use Rattle.std.proofs.Common.{ℕ, ◌≡◌, ◌+◌, ◌-◌, ◌*◌, ◌<◌, ◌≤◌, ◌==◌, if◌then◌else◌, List, [], ◌∷◌}
+use Rattle.std.proofs.Common.{◌++◌, length, Option, Some, refl, sym, ap, subst, ◌∙◌, arith, inl}
+use Rattle.std.proofs.Common.{inr}
 use Rattle.std.proofs.lemmas.Bool.{cases_eq}
 use Rattle.std.proofs.lemmas.Bool.Decides.{nat_tests}
 use Rattle.std.proofs.Math.Nat.{mul-le-mul_left, mul-le-mul_right}
@@ -10,14 +12,18 @@ use Rattle.rd_hulls.specs.Steps.{IsFalling}
 use Rattle.allocation_bound.specs.Sums.{upto, total}
 use Rattle.allocation_bound.specs.Steps.{scale, lens, gains, cost, best, level, excess, IsHead}
 use Rattle.allocation_bound.specs.Budgets.{chain, base, level_of}
-use Rattle.allocation_bound.specs.Settled.{Budgets, AreBudgets, Outcome, IsSettled, nearest, with_step, multiplier_of, block_rate}
-use Rattle.allocation_bound.specs.Ledger.{IsBelow, IsGap, FitsBeside, rounded_up, distortion, least_terms, held_worth, limit_worth}
+use Rattle.allocation_bound.specs.Settled.{Budgets, AreBudgets, Outcome, IsSettled, nearest}
+use Rattle.allocation_bound.specs.Settled.{with_step, multiplier_of, block_rate}
+use Rattle.allocation_bound.specs.Ledger.{IsBelow, IsGap, FitsBeside, rounded_up, distortion}
+use Rattle.allocation_bound.specs.Ledger.{least_terms, held_worth, limit_worth}
 use Rattle.allocation_bound.specs.Laws.{FollowOn}
-use Rattle.allocation_bound.specs.Refused.{grow, price, refused_price, price_at, IsRefused, ledger, slack, over}
+use Rattle.allocation_bound.specs.Refused.{grow, price, refused_price, price_at, IsRefused, ledger}
+use Rattle.allocation_bound.specs.Refused.{slack, over}
 use Rattle.allocation_bound.proofs.Products.{covers, div_up_covers, level_low}
 use Rattle.allocation_bound.proofs.Chains.{chain_below, on_below}
 use Rattle.allocation_bound.proofs.Gaps.{gap_is, accounting, rivals, unused_worth}
-use Rattle.allocation_bound.proofs.Levels.{first_is, multiplier_open, multiplier_closed, block_rate_is, agreement, level_positive}
+use Rattle.allocation_bound.proofs.Levels.{first_is, multiplier_open, multiplier_closed}
+use Rattle.allocation_bound.proofs.Levels.{block_rate_is, agreement, level_positive}
 use Rattle.allocation_bound.proofs.Lists.{cases_option}
 use Rattle.allocation_bound.proofs.Splits.{best_is_least, excess_over_prefixes, positive_parts}
 use Rattle.allocation_bound.proofs.SumLemmas.{upto_le, upto_same, upto_none, upto_scaled}
@@ -82,10 +88,10 @@ module _ (w : Budgets) (budgets : AreBudgets w) (steps : ℕ → List Step) (o :
   pub closed_inside : (j : ℕ) (s : Step) → o.closed j ≡ Some s → j < w.number
   closed_inside j s e =
       let on = (first_is o.closed (chain w.around (w.node s.block))
-          (record { budget = j; step = s }) (h.kept.closing j s e)).1 in
+      (record { budget = j; step = s }) (h.kept.closing j s e)).1 in
       on_below w.number j (chain w.around (w.node s.block))
       (chain_below w.around budgets.nested (w.node s.block) w.number
-          (budgets.inside s.block (h.kept.inside j s e))) on
+      (budgets.inside s.block (h.kept.inside j s e))) on
 
   pub refused_step : ((b : ℕ) → b < w.blocks → FollowOn 0 (steps b)) → (j : ℕ) (s : Step)
       → o.closed j ≡ Some s → IsRefused w o j s
@@ -109,17 +115,17 @@ module _ (w : Budgets) (budgets : AreBudgets w) (steps : ℕ → List Step) (o :
       → multiplier_of w o j * slack w o j ≤ scale * price s (grow w o s j)
   one_price j s e =
       let m : multiplier_of w o j
-          ≡ level s - base o.closed (w.around j) = multiplier_closed w.around o.closed j s e in
+      ≡ level s - base o.closed (w.around j) = multiplier_closed w.around o.closed j s e in
       let more : w.limit j < w.held o.counts j + (s.len + grow w o s j) =
       unused_by (w.limit j) (w.held o.counts j) (w.held (with_step o s) j) s.len
-          (h.kept.refused j s e) in
+      (h.kept.refused j s e) in
       let few : slack w o j ≤ s.len + grow w o s j =
       slack_by (w.limit j) (w.held o.counts j) (s.len + grow w o s j)
-          (h.kept.within j (closed_inside j s e)) more in
+      (h.kept.within j (closed_inside j s e)) more in
       worth_by (multiplier_of w o j) (level s) (slack w o j) (s.len + grow w o s j) s.gain s.len
-          (price s (grow w o s j))
+      (price s (grow w o s j))
       s.longer (omega arith) few (level_low s.gain s.len)
-          (div_up_covers (s.gain * (s.len + grow w o s j)) s.len s.longer)
+      (div_up_covers (s.gain * (s.len + grow w o s j)) s.len s.longer)
 
   -- for each budget, with the price 0 of a budget whose multiplier is 0
   each_price : (j : ℕ) → j < w.number → multiplier_of w o j * slack w o j ≤ scale * price_at w o j
@@ -140,14 +146,14 @@ module _ (w : Budgets) (budgets : AreBudgets w) (steps : ℕ → List Step) (o :
       ≤ cost (block_rate w o b) (o.done b) (o.left b)
   own_least b inside =
       subst (λ (l : List Step). best (block_rate w o b) l
-          ≤ cost (block_rate w o b) (o.done b) (o.left b))
+      ≤ cost (block_rate w o b) (o.done b) (o.left b))
       (h.kept.splits b inside) (best_is_least (block_rate w o b) (o.done b) (o.left b))
 
   over_is : (b : ℕ) → b < w.blocks → scale * gains (o.left b) + block_rate w o b * lens (o.done b)
       ≡ best (block_rate w o b) (steps b) + over w steps o b
   over_is b inside =
       over_by (block_rate w o b) (lens (o.done b)) (gains (o.left b))
-          (best (block_rate w o b) (steps b)) (own_least b inside)
+      (best (block_rate w o b) (steps b)) (own_least b inside)
 
   -- less than the bytes that the block leaves
   pub over_small : (b : ℕ) → b < w.blocks → over w steps o b + length (o.left b) ≤ lens (o.left b)
@@ -157,7 +163,7 @@ module _ (w : Budgets) (budgets : AreBudgets w) (steps : ℕ → List Step) (o :
       subst (λ (l : List Step). cost (block_rate w o b) (o.done b) (o.left b) + length (o.left b)
       ≤ best (block_rate w o b) l + lens (o.left b)) (h.kept.splits b inside)
       (excess_over_prefixes (block_rate w o b) (o.done b) (o.left b)
-          (agreement w budgets steps o h b inside)) in
+      (agreement w budgets steps o h b inside)) in
       over_less (cost (block_rate w o b) (o.done b) (o.left b)) (best (block_rate w o b) (steps b))
       (length (o.left b)) (lens (o.left b)) (own_least b inside) x
 
@@ -170,7 +176,7 @@ module _ (w : Budgets) (budgets : AreBudgets w) (steps : ℕ → List Step) (o :
       subst (λ (l : List Step). cost (block_rate w o b) (o.done b) (o.left b)
       ≡ best (block_rate w o b) l + excess (block_rate w o b) (o.left b)) (h.kept.splits b inside)
       (positive_parts (block_rate w o b) (o.done b) (o.left b)
-          (agreement w budgets steps o h b inside) falls) in
+      (agreement w budgets steps o h b inside) falls) in
       less_by (cost (block_rate w o b) (o.done b) (o.left b)) (best (block_rate w o b) (steps b))
       (excess (block_rate w o b) (o.left b)) e
 
@@ -192,14 +198,15 @@ module _ (w : Budgets) (budgets : AreBudgets w) (steps : ℕ → List Step) (o :
   unused_below : unused_worth (ledger w steps o) (slack w o) ≤ scale * upto w.number (price_at w o)
   unused_below =
       let a : unused_worth (ledger w steps o) (slack w o)
-          ≤ upto w.number (λ j. scale * price_at w o j) =
+      ≤ upto w.number (λ j. scale * price_at w o j) =
       upto_le w.number (λ j. multiplier_of w o j * slack w o j) (λ j. scale * price_at w o j)
-          each_price in
+      each_price in
       let b : upto w.number (λ j. scale * price_at w o j) ≡ scale * upto w.number (price_at w o) =
       upto_scaled w.number (price_at w o) in
       omega arith
 
-  -- The gap is at most the prices together, and one for each 2^32 bytes that blocks leave, or a part of them.
+  -- The gap is at most the prices together, and one for each 2^32 bytes that blocks leave, or a
+  -- part of them.
   pub gap_below_prices : (k g : ℕ) → upto w.blocks (λ b. lens (o.left b)) ≤ scale * k
       → IsGap (ledger w steps o) g → g ≤ upto w.number (price_at w o) + k
   gap_below_prices k g few is =
@@ -208,7 +215,7 @@ module _ (w : Budgets) (budgets : AreBudgets w) (steps : ℕ → List Step) (o :
       let x : upto w.blocks (over w steps o) ≤ upto w.blocks (λ b. lens (o.left b)) =
       upto_le w.blocks (over w steps o) (λ b. lens (o.left b))
       (λ b inside. let t : over w steps o b + length (o.left b)
-          ≤ lens (o.left b) = over_small b inside in omega arith) in
+      ≤ lens (o.left b) = over_small b inside in omega arith) in
       is.least (upto w.number (price_at w o) + k) (omega arith)
 
   -- where no budget has a multiplier, every block has taken all its steps
@@ -240,24 +247,24 @@ module _ (w : Budgets) (budgets : AreBudgets w) (steps : ℕ → List Step) (o :
       let u : unused_worth (ledger w steps o) (slack w o) ≡ upto w.number (λ j. 0) =
       upto_same w.number (λ j. multiplier_of w o j * slack w o j) (λ j. 0) (λ j lt.
       let p : multiplier_of w o j * slack w o j
-          ≡ 0 * slack w o j = ap (λ x. x * slack w o j) (zeros j lt) in
+      ≡ 0 * slack w o j = ap (λ x. x * slack w o j) (zeros j lt) in
       omega arith) in
       let v : upto w.number (λ j. 0) ≡ 0 = upto_none w.number in
       let z : g ≤ 0 = is.least 0 (omega arith) in
       omega arith
 
-  -- No other way to take the first steps of blocks that fits beside what the budgets hold has a distortion
-  -- below the chosen one's, less the gap.
+  -- No other way to take the first steps of blocks that fits beside what the budgets hold has a
+  -- distortion below the chosen one's, less the gap.
   pub walk_rivals : (g : ℕ) → IsBelow (ledger w steps o) g → (done left : ℕ → List Step)
       → ((b : ℕ) → b < w.blocks → done b ++ left b ≡ steps b)
       → FitsBeside (ledger w steps o) (λ b. lens (done b))
       → distortion (ledger w steps o) ≤ upto w.blocks (λ b. gains (left b)) + g
   walk_rivals g is done left splits fits =
       rivals (ledger w steps o) budgets.nested budgets.inside g is (λ b. gains (left b))
-          (λ b. lens (done b))
+      (λ b. lens (done b))
       (λ b inside.
       let least : best (block_rate w o b) (steps b) ≤ cost (block_rate w o b) (done b) (left b) =
       subst (λ (l : List Step). best (block_rate w o b) l
-          ≤ cost (block_rate w o b) (done b) (left b))
+      ≤ cost (block_rate w o b) (done b) (left b))
       (splits b inside) (best_is_least (block_rate w o b) (done b) (left b)) in
       omega arith) fits

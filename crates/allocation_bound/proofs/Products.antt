@@ -13,7 +13,8 @@ cancel_lt n a b h = grind arith
 pub cancel_le : (n a b : ℕ) → 1 ≤ n → a * n ≤ b * n → a ≤ b
 cancel_le n a b some h = grind arith
 
--- a level, times the length that it was divided by, is at most the number and less than a length below it
+-- a level, times the length that it was divided by, is at most the number and less than a length
+-- below it
 pub level_low : (g l : ℕ) → scale * g / l * l ≤ scale * g
 level_low g l = div-mul-le_self (scale * g) l
 
@@ -87,11 +88,11 @@ left_by : (m s g r e l d : ℕ) → 1 ≤ s → m * s ≤ scale * g → e * s + 
 left_by m s g r e l d some low line =
     let a : m * s * r ≤ scale * g * r = mul-le-mul_right r low in
     let b : scale * e + m * r
-        ≤ scale * d = cancel_le s (scale * e + m * r) (scale * d) some (omega arith) in
+    ≤ scale * d = cancel_le s (scale * e + m * r) (scale * d) some (omega arith) in
     omega arith
 
--- The corner of a bytes and the distortion e ends a step of s bytes and the gain g, and the multiplier m
--- is at most its slope: no point of no more bytes costs less.
+-- The corner of a bytes and the distortion e ends a step of s bytes and the gain g, and the
+-- multiplier m is at most its slope: no point of no more bytes costs less.
 pub left : (m s g a e l d : ℕ) → 1 ≤ s → m * s ≤ scale * g → e * s + g * a ≤ d * s + g * l → l ≤ a
     → scale * e + m * a ≤ scale * d + m * l
 left m s g a e l d some low line short =
@@ -103,7 +104,7 @@ right_by : (m s g r e a d : ℕ) → 1 ≤ s → scale * g ≤ m * s → e * s +
 right_by m s g r e a d some high line =
     let a : scale * g * r ≤ m * s * r = mul-le-mul_right r high in
     let b : scale * e ≤ scale * d
-        + m * r = cancel_le s (scale * e) (scale * d + m * r) some (omega arith) in
+    + m * r = cancel_le s (scale * e) (scale * d + m * r) some (omega arith) in
     omega arith
 
 -- The corner begins a step whose slope is at most m: no point of no fewer bytes costs less.

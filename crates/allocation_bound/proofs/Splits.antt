@@ -1,5 +1,6 @@
 -- What the steps taken and left of a block cost against the least cost, at one multiplier.
-use Rattle.std.proofs.Common.{ℕ, ◌≡◌, ◌+◌, ◌*◌, ◌<◌, ◌≤◌, min, List, [], ◌∷◌, ◌++◌, length, refl, arith, inl, inr}
+use Rattle.std.proofs.Common.{ℕ, ◌≡◌, ◌+◌, ◌*◌, ◌<◌, ◌≤◌, min, List, [], ◌∷◌, ◌++◌, length, refl}
+use Rattle.std.proofs.Common.{arith, inl, inr}
 use Rattle.std.proofs.lemmas.Bool.{cases_lt}
 use Rattle.std.proofs.Math.Nat.{min-le_left, min-le_right, min-eq_left, min-eq_right}
 use Rattle.std.specs.List.{AllByRecursion}
@@ -65,9 +66,9 @@ pub excess_over_prefixes : (m : ℕ) (done left : List Step) → Agrees m done l
     → cost m done left + length left ≤ best m (done ++ left) + lens left
 excess_over_prefixes m done left a =
     let h : m * lens done + best m left
-        ≤ best m (done ++ left) = taken_loses_nothing m done left a.taken in
+    ≤ best m (done ++ left) = taken_loses_nothing m done left a.taken in
     let g : scale * gains left + length left ≤ best m left
-        + lens left = left_loses_little m left a.untaken in
+    + lens left = left_loses_little m left a.untaken in
     omega arith
 
 -- no step after one that is not above the multiplier is above it
@@ -76,9 +77,9 @@ excess_none : (m g n : ℕ) (r : List Step) → 1 ≤ n → scale * g ≤ m * n 
 excess_none m g n [] some low fall = (refl, omega arith)
 excess_none m g n (t ∷ r) some low fall =
     let f : scale * t.gain
-        ≤ m * t.len = flatter m n g t.len t.gain some (omega (arith, fall.0)) low in
+    ≤ m * t.len = flatter m n g t.len t.gain some (omega (arith, fall.0)) low in
     let h : (excess m r ≡ 0)
-        × (scale * gains r ≤ m * lens r) = excess_none m t.gain t.len r t.longer f fall.1 in
+    × (scale * gains r ≤ m * lens r) = excess_none m t.gain t.len r t.longer f fall.1 in
     let e : excess m r ≡ 0 = h.0 in
     let l : scale * gains r ≤ m * lens r = h.1 in
     (omega arith, omega arith)
@@ -92,7 +93,7 @@ left_parts : (m : ℕ) (left : List Step) → IsFalling left → scale * gains l
 left_parts m [] falls = omega arith
 left_parts m (s ∷ r) falls =
     let h : scale * gains r ≡ best m r
-        + excess m r = left_parts m r (falls_on s.gain s.len r falls) in
+    + excess m r = left_parts m r (falls_on s.gain s.len r falls) in
     let split : best m (s ∷ r) ≡ min (scale * gains (s ∷ r)) (m * s.len + best m r) = refl in
     elim (cases_lt (m * s.len) (scale * s.gain)) [
       | inl l ↦ (let b : best m (s ∷ r) ≡ m * s.len
@@ -109,7 +110,7 @@ pub positive_parts : (m : ℕ) (done left : List Step) → Agrees m done left �
     → cost m done left ≡ best m (done ++ left) + excess m left
 positive_parts m done left a falls =
     let h : m * lens done + best m left
-        ≤ best m (done ++ left) = taken_loses_nothing m done left a.taken in
+    ≤ best m (done ++ left) = taken_loses_nothing m done left a.taken in
     let g : scale * gains left ≡ best m left + excess m left = left_parts m left falls in
     let i : best m (done ++ left) ≤ m * lens done + best m left = best_first m done left in
     omega arith

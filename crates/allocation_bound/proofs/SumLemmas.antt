@@ -1,5 +1,6 @@
 -- Sums over budgets and over blocks change places.
-use Rattle.std.proofs.Common.{ℕ, zero, suc, ◌≡◌, ◌+◌, ◌*◌, ◌<◌, ◌≤◌, List, [], ◌∷◌, refl, sym, ap, ◌∙◌, arith, inl, inr}
+use Rattle.std.proofs.Common.{ℕ, zero, suc, ◌≡◌, ◌+◌, ◌*◌, ◌<◌, ◌≤◌, List, [], ◌∷◌, refl, sym, ap}
+use Rattle.std.proofs.Common.{◌∙◌, arith, inl, inr}
 use Rattle.std.proofs.lemmas.Bool.{cases_eq}
 use Rattle.std.specs.List.{AllByRecursion}
 use Rattle.allocation_bound.specs.Steps.{scale}
@@ -85,15 +86,15 @@ over_chain n m v (i ∷ r) h =
     worth_add n m (λ j. only i v j) (λ j. total (λ i. only i v j) r) in
     let a : upto n (λ j. m j * only i v j) ≡ m i * v = worth_only n m i v h.0 in
     let b : upto n (λ j. m j * total (λ i. only i v j) r)
-        ≡ total m r * v = over_chain n m v r h.1 in
+    ≡ total m r * v = over_chain n m v r h.1 in
     omega arith
 
--- Bytes priced block by block, at the multipliers of each block's budgets together, are bytes priced
--- budget by budget.
+-- Bytes priced block by block, at the multipliers of each block's budgets together, are bytes
+-- priced budget by budget.
 pub exchange : (around : ℕ → List ℕ) → IsNested around → (n : ℕ) (node m x : ℕ → ℕ) (blocks : ℕ)
     → ((b : ℕ) → b < blocks → node b < n)
     → upto blocks (λ b. rate around m (node b) * x b)
-        ≡ upto n (λ j. m j * body around node x blocks j)
+    ≡ upto n (λ j. m j * body around node x blocks j)
 exchange around nested n node m x zero inside = sym (worth_zero n m)
 exchange around nested n node m x (suc b) inside =
     let one : ℕ → ℕ = λ j. total (λ i. only i (x b) j) (chain around (node b)) in
@@ -102,8 +103,8 @@ exchange around nested n node m x (suc b) inside =
     worth_add n m (λ j. body around node x b j) one in
     let a : upto n (λ j. m j * one j) ≡ total m (chain around (node b)) * x b =
     over_chain n m (x b) (chain around (node b))
-        (chain_below around nested (node b) n (inside b (omega arith))) in
+    (chain_below around nested (node b) n (inside b (omega arith))) in
     let h : upto b (λ b. rate around m (node b) * x b)
-        ≡ upto n (λ j. m j * body around node x b j) =
+    ≡ upto n (λ j. m j * body around node x b j) =
     exchange around nested n node m x b (λ k lt. inside k (omega arith)) in
     omega arith

@@ -1,5 +1,6 @@
 -- Taking a step keeps what stands between moves.
-use Rattle.std.proofs.Common.{ℕ, ◌≡◌, ◌+◌, ◌<◌, ◌≤◌, List, [], ◌∷◌, ◌++◌, length, get_or, set, Option, Some, None, refl, sym, ap, subst, ◌∙◌, arith, inl, inr}
+use Rattle.std.proofs.Common.{ℕ, ◌≡◌, ◌+◌, ◌<◌, ◌≤◌, List, [], ◌∷◌, ◌++◌, length, get_or, set}
+use Rattle.std.proofs.Common.{Option, Some, None, refl, sym, ap, subst, ◌∙◌, arith, inl, inr}
 use Rattle.std.proofs.lemmas.Bool.{cases_eq}
 use Rattle.std.proofs.lemmas.List.{get_or-set_same, get_or-set_other, length-set}
 use Rattle.std.proofs.lemmas.Option.{none-some}
@@ -32,7 +33,7 @@ first_same : (old new : ℕ → Option Step) → ((j : ℕ) → new j ≡ old j)
 first_same old new same [] = refl
 first_same old new same (j ∷ r) =
     ap (λ c. nearer j c (first new r)) (same j) ∙ ap (λ x. nearer j (old j) x)
-        (first_same old new same r)
+    (first_same old new same r)
 
 end_push : (c : ℕ) (done : List Step) (s : Step) → end_of c (done ++ s ∷ []) ≡ s.to
 end_push c [] s = refl
@@ -60,7 +61,7 @@ module _ (w : Budgets) (budgets : AreBudgets w) (steps : ℕ → List Step) (fro
 
 module _ (w : Budgets) (budgets : AreBudgets w) (steps : ℕ → List Step) (front : Step) (o : Outcome)
     (h : Stands w steps front o) (s : Step) (rest : List Step) (n : Outcome)
-        (t : Takes w o s rest n) where
+    (t : Takes w o s rest n) where
   own : List ℕ
   own = chain w.around (w.node s.block)
 
@@ -86,7 +87,7 @@ module _ (w : Budgets) (budgets : AreBudgets w) (steps : ℕ → List Step) (fro
   take_splits b inside = elim (cases_eq b s.block) [
     | inl e ↦ subst (λ c. n.done c ++ n.left c ≡ steps c) (sym e)
         (rw (t.done, t.left) (moved_over (o.done s.block) s rest ∙
-            (rw t.next.head at (h.kept.splits s.block t.next.inside))))
+        (rw t.next.head at (h.kept.splits s.block t.next.inside))))
     | inr ne ↦ rw (t.other_done b ne, t.other_left b ne) (h.kept.splits b inside)
   ]
 
@@ -118,7 +119,7 @@ module _ (w : Budgets) (budgets : AreBudgets w) (steps : ℕ → List Step) (fro
   off_chain : (j : ℕ) (u : Step) → o.closed j ≡ Some u → ¬ IsOn j (chain w.around (w.node s.block))
   off_chain j u e on =
       none-some u (sym (first_none o.closed j (chain w.around (w.node s.block)) t.next.open_block
-          on) ∙ e)
+      on) ∙ e)
 
   on_own : (j : ℕ) (u : Step) → o.closed j ≡ Some u → IsOn j (chain w.around (w.node u.block))
   on_own j u e = (first_is o.closed (chain w.around (w.node u.block)) _ (h.kept.closing j u e)).1
@@ -131,7 +132,7 @@ module _ (w : Budgets) (budgets : AreBudgets w) (steps : ℕ → List Step) (fro
       → get_or (with_step o s) x 0 ≡ get_or o.counts x 0
   agree j u e x inside at_node = get_or-set_other o.counts s.block x s.to 0 (λ same.
       off_chain j u e (subst (λ c. IsOn j (chain w.around c)) (sym at_node ∙ ap w.node same)
-          (on_own j u e)))
+      (on_own j u e)))
 
   -- what a budget refused it refuses still
   still_refused : (j : ℕ) (u : Step) → o.closed j ≡ Some u
@@ -140,7 +141,7 @@ module _ (w : Budgets) (budgets : AreBudgets w) (steps : ℕ → List Step) (fro
       let same : w.held (set (with_step o s) u.block u.to) j + w.held o.counts j
       ≡ w.held (set o.counts u.block u.to) j + w.held (with_step o s) j =
       budgets.depends o.counts (with_step o s) u.block u.to j h.kept.long long_after
-          (h.kept.inside j u e) (agree j u e) in
+      (h.kept.inside j u e) (agree j u e) in
       let stays : w.held (with_step o s) j ≡ w.held o.counts j =
       budgets.elsewhere o.counts s.block s.to j h.kept.long t.next.inside (off_chain j u e) in
       let over : w.limit j < w.held (set o.counts u.block u.to) j = h.kept.refused j u e in
@@ -177,7 +178,7 @@ module _ (w : Budgets) (budgets : AreBudgets w) (steps : ℕ → List Step) (fro
               (sym same)
               (rw t.done (all_more (λ (t : Step). IsAsSteep t s) (o.done s.block) s
               (done_steep w budgets steps front o h s rest t.next s.block t.next.inside
-                  t.next.open_block) (steep_self s)))
+              t.next.open_block) (steep_self s)))
           | inr ne ↦ rw (t.other_done b ne)
               (done_steep w budgets steps front o h s rest t.next b inside f)
         ];

@@ -1,11 +1,12 @@
--- Nested byte budgets, numbered from the outermost, and the multipliers of those that a step closed.
+-- Nested byte budgets, numbered from the outermost, and the multipliers of those that a step
+-- closed.
 use Rattle.std.specs.Prelude.{ℕ, ◌≡◌, ◌-◌, ◌<◌, ◌⊎◌, List, [], ◌∷◌, Option, Some, None}
 use Rattle.rd_hulls.specs.declared.step.Step.{Step}
 use Rattle.allocation_bound.specs.Steps.{level}
 use Rattle.allocation_bound.specs.Sums.{upto, total, only}
 
--- `around j` has the budgets around budget j, the nearest first. Around the nearest are the others, and
--- a budget has a higher number than those around it.
+-- `around j` has the budgets around budget j, the nearest first. Around the nearest are the others,
+-- and a budget has a higher number than those around it.
 abbrev pub AreAround : (ℕ → List ℕ) → ℕ → List ℕ → Type 0
 AreAround around j [] = Unit {0}
 AreAround around j (i ∷ rest) = (i < j) × (rest ≡ around i)
@@ -28,7 +29,8 @@ IsOn j [] = ⊥
 IsOn j (i ∷ rest) = (i ≡ j) ⊎ IsOn j rest
 
 -- The body bytes of budget j: what x has of each of the blocks 0 to n - 1, over the blocks of the
--- budget. `node` has the innermost budget of each block, whose bytes stand in it and in those around it.
+-- budget. `node` has the innermost budget of each block, whose bytes stand in it and in those
+-- around it.
 abbrev pub body : (ℕ → List ℕ) → (ℕ → ℕ) → (ℕ → ℕ) → ℕ → ℕ → ℕ
 body around node x n j = upto n (λ b. total (λ i. only i (x b) j) (chain around (node b)))
 
@@ -58,8 +60,8 @@ level_of (Some c) = level c.step
 abbrev pub base : (ℕ → Option Step) → List ℕ → ℕ
 base closed budgets = level_of (first closed budgets)
 
--- A closed budget's multiplier is its level less the level of the nearest closed budget around it, which
--- is not larger; that of an open budget is 0.
+-- A closed budget's multiplier is its level less the level of the nearest closed budget around it,
+-- which is not larger; that of an open budget is 0.
 abbrev pub above_base : Option Step → ℕ → ℕ
 above_base None outer = 0
 above_base (Some s) outer = level s - outer

@@ -18,7 +18,8 @@ pub record AreSteps (blocks : ℕ) (steps : ℕ → List Step) : Type 0 where
   pub follow : (b : ℕ) → b < blocks → FollowOn 0 (steps b)
   pub fall : (b : ℕ) → b < blocks → IsFalling (steps b)
 
--- what the code adds up: the excess of what blocks have left, and the worth of what budgets have unused
+-- what the code adds up: the excess of what blocks have left, and the worth of what budgets have
+-- unused
 abbrev pub excess_and_unused : Budgets → Outcome → ℕ
 excess_and_unused w o = upto w.blocks (λ b. excess (block_rate w o b) (o.left b))
     + upto w.number (λ j. multiplier_of w o j * slack w o j)
@@ -30,13 +31,14 @@ pub record HasCertificate (w : Budgets) (steps : ℕ → List Step) (o : Outcome
   -- the gap, which is one number
   pub gap : IsGap (ledger w steps o) (rounded_up (excess_and_unused w o))
   pub once : (g h : ℕ) → IsGap (ledger w steps o) g → IsGap (ledger w steps o) h → g ≡ h
-  -- No other way to take the first steps of blocks that fits has a distortion below the chosen one's,
-  -- less the gap.
+  -- No other way to take the first steps of blocks that fits has a distortion below the chosen
+  -- one's, less the gap.
   pub rivals : (g : ℕ) → IsGap (ledger w steps o) g → (done left : ℕ → List Step)
       → ((b : ℕ) → b < w.blocks → done b ++ left b ≡ steps b)
       → FitsBeside (ledger w steps o) (λ b. lens (done b))
       → distortion (ledger w steps o) ≤ upto w.blocks (λ b. gains (left b)) + g
-  -- The gap is at most the prices together and one for each 2^32 bytes that blocks leave, or a part.
+  -- The gap is at most the prices together and one for each 2^32 bytes that blocks leave, or a
+  -- part.
   pub below_prices : (k g : ℕ) → upto w.blocks (λ b. lens (o.left b)) ≤ scale * k
       → IsGap (ledger w steps o) g → g ≤ upto w.number (price_at w o) + k
   -- and 0 where no budget has a multiplier

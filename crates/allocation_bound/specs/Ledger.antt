@@ -4,9 +4,9 @@ use Rattle.allocation_bound.specs.Steps.{scale}
 use Rattle.allocation_bound.specs.Sums.{upto}
 use Rattle.allocation_bound.specs.Budgets.{body, rate}
 
--- A choice beside nested budgets, and a multiplier of each: the limit of each budget and what it holds,
--- headers included; the bytes and the distortion of each block as chosen; and the least term of each
--- block over all that could be chosen of it.
+-- A choice beside nested budgets, and a multiplier of each: the limit of each budget and what it
+-- holds, headers included; the bytes and the distortion of each block as chosen; and the least term
+-- of each block over all that could be chosen of it.
 pub record Ledger : Type 0 where
   pub number : ℕ
   pub around : ℕ → List ℕ
@@ -31,13 +31,15 @@ distortion l = upto l.blocks l.dist
 abbrev pub body_of : Ledger → (ℕ → ℕ) → ℕ → ℕ
 body_of l x j = body l.around l.node x l.blocks j
 
--- Other bytes of the blocks fit beside the headers that were written: in each budget they are at most
--- the limit less what is held beside the bytes as chosen. What is subtracted there is added here.
+-- Other bytes of the blocks fit beside the headers that were written: in each budget they are at
+-- most the limit less what is held beside the bytes as chosen. What is subtracted there is added
+-- here.
 abbrev pub FitsBeside : Ledger → (ℕ → ℕ) → Type 0
 FitsBeside l x = (j : ℕ) → j < l.number → body_of l x j + l.held j ≤ l.limit j + body_of l l.bytes j
 
--- The bound is the least terms together, less the multipliers' worth of what the limits leave for body
--- bytes. It may be below 0, so that its parts stand apart, those that are subtracted on the other side.
+-- The bound is the least terms together, less the multipliers' worth of what the limits leave for
+-- body bytes. It may be below 0, so that its parts stand apart, those that are subtracted on the
+-- other side.
 abbrev pub least_terms : Ledger → ℕ
 least_terms l = upto l.blocks l.least
 
@@ -51,8 +53,8 @@ limit_worth l = upto l.number (λ j. l.multipliers j * (l.limit j + body_of l l.
 abbrev pub IsBelow : Ledger → ℕ → Type 0
 IsBelow l g = scale * distortion l + limit_worth l ≤ least_terms l + held_worth l + scale * g
 
--- The gap is the least whole number by which the distortion may be lowered so that it is at most the
--- bound.
+-- The gap is the least whole number by which the distortion may be lowered so that it is at most
+-- the bound.
 pub record IsGap (l : Ledger) (gap : ℕ) : Type 0 where
   pub enough : IsBelow l gap
   pub least : (g : ℕ) → IsBelow l g → gap ≤ g

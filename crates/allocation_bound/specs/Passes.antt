@@ -43,13 +43,13 @@ pub record HasPassCertificate (w : Budgets) (steps : ℕ → List Step) (o : Out
     (points : ℕ → List Point) (least : ℕ → ℕ) : Type 0 where
   -- the gap is the same number
   pub gap : (g : ℕ) → IsGap (ledger w steps o) g → IsGap (pass_ledger w points least o) g
-  -- No choice of passes that fits beside the written headers has a distortion below the chosen one's,
-  -- less the gap.
+  -- No choice of passes that fits beside the written headers has a distortion below the chosen
+  -- one's, less the gap.
   pub rivals : (g : ℕ) → IsGap (pass_ledger w points least o) g → (choice : ℕ → ℕ)
       → ((b : ℕ) → b < w.blocks → choice b < length (points b))
       → FitsBeside (pass_ledger w points least o) (λ b. (chosen_point points choice b).len)
       → distortion (pass_ledger w points least o)
-          ≤ upto w.blocks (λ b. (chosen_point points choice b).dist) + g
+      ≤ upto w.blocks (λ b. (chosen_point points choice b).dist) + g
   -- A block's chosen term is at most 2^17 above each other one.
   pub chosen : (b : ℕ) → b < w.blocks → (k : ℕ) → k < length (points b)
       → term (block_rate w o b) (point_at (points b) (get_or o.counts b 0))

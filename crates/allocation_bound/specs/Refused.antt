@@ -1,5 +1,6 @@
 -- The steps that closed budgets refused, and their prices.
-use Rattle.std.specs.Prelude.{ℕ, ◌≡◌, ◌+◌, ◌-◌, ◌*◌, ◌<◌, ◌==◌, if◌then◌else◌, List, Option, Some, None, get_or}
+use Rattle.std.specs.Prelude.{ℕ, ◌≡◌, ◌+◌, ◌-◌, ◌*◌, ◌<◌, ◌==◌, if◌then◌else◌, List, Option, Some}
+use Rattle.std.specs.Prelude.{None, get_or}
 use Rattle.cine_nums.specs.Division.{div_up}
 use Rattle.rd_hulls.specs.declared.step.Step.{Step}
 use Rattle.allocation_bound.specs.Steps.{lens, gains, cost, best, level}
@@ -7,8 +8,8 @@ use Rattle.allocation_bound.specs.Budgets.{IsOn, chain}
 use Rattle.allocation_bound.specs.Settled.{Budgets, Outcome, with_step, multiplier_of, block_rate}
 use Rattle.allocation_bound.specs.Ledger.{Ledger}
 
--- By how many bytes budget j would grow beyond those of the step itself, and 0 where it would grow by
--- fewer: what the block's packet header would grow by.
+-- By how many bytes budget j would grow beyond those of the step itself, and 0 where it would grow
+-- by fewer: what the block's packet header would grow by.
 abbrev pub grow : Budgets → Outcome → Step → ℕ → ℕ
 grow w o s j = w.held (with_step o s) j - (w.held o.counts j + s.len)
 
@@ -36,8 +37,8 @@ pub record IsRefused (w : Budgets) (o : Outcome) (j : ℕ) (s : Step) : Type 0 w
   pub breaks : w.limit j < w.held (with_step o s) j
   pub unused : w.limit j < w.held o.counts j + (s.len + grow w o s j)
 
--- the ledger of what a walk leaves, with the bytes and the distortion of each block as chosen, and its
--- least term
+-- the ledger of what a walk leaves, with the bytes and the distortion of each block as chosen, and
+-- its least term
 abbrev pub ledger_of : Budgets → Outcome → (ℕ → ℕ) → (ℕ → ℕ) → (ℕ → ℕ) → Ledger
 ledger_of w o bytes dist least = record {
   number = w.number;
@@ -56,7 +57,7 @@ ledger_of w o bytes dist least = record {
 abbrev pub ledger : Budgets → (ℕ → List Step) → Outcome → Ledger
 ledger w steps o =
     ledger_of w o (λ b. lens (o.done b)) (λ b. gains (o.left b))
-        (λ b. best (block_rate w o b) (steps b))
+    (λ b. best (block_rate w o b) (steps b))
 
 -- what each budget has unused of its limit
 abbrev pub slack : Budgets → Outcome → ℕ → ℕ

@@ -1,14 +1,15 @@
--- The state in which a walk over the steps of many blocks ends, beside nested budgets. Nothing in it
--- speaks of order, time or search.
-use Rattle.std.specs.Prelude.{ℕ, ◌≡◌, ◌+◌, ◌<◌, ◌≤◌, List, [], ◌++◌, length, Option, Some, None, get_or, set}
+-- The state in which a walk over the steps of many blocks ends, beside nested budgets. Nothing in
+-- it speaks of order, time or search.
+use Rattle.std.specs.Prelude.{ℕ, ◌≡◌, ◌+◌, ◌<◌, ◌≤◌, List, [], ◌++◌, length, Option, Some, None}
+use Rattle.std.specs.Prelude.{get_or, set}
 use Rattle.std.specs.List.{AllByRecursion}
 use Rattle.rd_hulls.specs.declared.step.Step.{Step}
 use Rattle.rd_hulls.specs.Hull.{end_of}
 use Rattle.allocation_bound.specs.Steps.{IsAsSteep, IsHead}
 use Rattle.allocation_bound.specs.Budgets.{IsNested, IsOn, Closed, chain, first, multiplier, rate}
 
--- Budgets around blocks: how many of both, the budgets around each, the innermost budget of each block,
--- the limits, and the bytes held, headers included, where the blocks have so many passes.
+-- Budgets around blocks: how many of both, the budgets around each, the innermost budget of each
+-- block, the limits, and the bytes held, headers included, where the blocks have so many passes.
 pub record Budgets : Type 0 where
   pub blocks : ℕ
   pub number : ℕ
@@ -17,8 +18,8 @@ pub record Budgets : Type 0 where
   pub limit : ℕ → ℕ
   pub held : List ℕ → ℕ → ℕ
 
--- The budgets are nested. A block's passes change what its own budgets hold and no other; by how much
--- depends only on the passes of the blocks with the same innermost budget.
+-- The budgets are nested. A block's passes change what its own budgets hold and no other; by how
+-- much depends only on the passes of the blocks with the same innermost budget.
 pub record AreBudgets (w : Budgets) : Type 0 where
   pub nested : IsNested w.around
   pub inside : (b : ℕ) → b < w.blocks → w.node b < w.number
@@ -29,8 +30,8 @@ pub record AreBudgets (w : Budgets) : Type 0 where
       → ((x : ℕ) → x < w.blocks → w.node x ≡ w.node b → get_or d x 0 ≡ get_or c x 0)
       → w.held (set d b to) j + w.held c j ≡ w.held (set c b to) j + w.held d j
 
--- What a walk leaves: the passes of each block, its steps taken and left, and of each budget the step
--- that closed it, if one did.
+-- What a walk leaves: the passes of each block, its steps taken and left, and of each budget the
+-- step that closed it, if one did.
 pub record Outcome : Type 0 where
   pub counts : List ℕ
   pub done : ℕ → List Step

@@ -28,7 +28,8 @@ gains steps = total (λ (s : Step). s.gain) steps
 abbrev pub cost : ℕ → List Step → List Step → ℕ
 cost m done left = m * lens done + scale * gains left
 
--- the least cost over the ways to take the first steps of a list, some or none, and leave the others
+-- the least cost over the ways to take the first steps of a list, some or none, and leave the
+-- others
 abbrev pub best : ℕ → List Step → ℕ
 best m [] = 0
 best m (s ∷ rest) = min (scale * gains (s ∷ rest)) (m * s.len + best m rest)
@@ -38,7 +39,8 @@ pub record Agrees (m : ℕ) (done left : List Step) : Type 0 where
   pub taken : AllByRecursion (λ (s : Step). m * s.len ≤ scale * s.gain) done
   pub untaken : AllByRecursion (λ (s : Step). scale * s.gain < (m + 1) * s.len) left
 
--- by how much the steps that are left are above the multiplier, step by step, and 0 where one is not
+-- by how much the steps that are left are above the multiplier, step by step, and 0 where one is
+-- not
 abbrev pub excess : ℕ → List Step → ℕ
 excess m left = total (λ (s : Step). scale * s.gain - m * s.len) left
 

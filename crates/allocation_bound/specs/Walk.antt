@@ -6,8 +6,9 @@ use Rattle.allocation_bound.specs.Steps.{IsAsSteep}
 use Rattle.allocation_bound.specs.Budgets.{chain, IsOn}
 use Rattle.allocation_bound.specs.Settled.{Budgets, Outcome, IsKept, nearest, with_step}
 
--- Between two moves, where the front is the last step that was looked at: what open blocks have taken is
--- at least as steep, what they have left is not steeper, and each closing step is at least as steep.
+-- Between two moves, where the front is the last step that was looked at: what open blocks have
+-- taken is at least as steep, what they have left is not steeper, and each closing step is at least
+-- as steep.
 pub record Stands (w : Budgets) (steps : ℕ → List Step) (front : Step) (o : Outcome) : Type 0 where
   pub kept : IsKept w steps o
   pub done : (b : ℕ) → b < w.blocks → nearest w o b ≡ None
@@ -16,8 +17,8 @@ pub record Stands (w : Budgets) (steps : ℕ → List Step) (front : Step) (o : 
       → AllByRecursion (IsAsSteep front) (o.left b)
   pub rest : (j : ℕ) (s : Step) → o.closed j ≡ Some s → IsAsSteep s front
 
--- The step that a move is made by: the next one of an open block, at least as steep as all that open
--- blocks have left.
+-- The step that a move is made by: the next one of an open block, at least as steep as all that
+-- open blocks have left.
 pub record IsNext (w : Budgets) (o : Outcome) (s : Step) (rest : List Step) : Type 0 where
   pub inside : s.block < w.blocks
   pub open_block : nearest w o s.block ≡ None
@@ -27,16 +28,16 @@ pub record IsNext (w : Budgets) (o : Outcome) (s : Step) (rest : List Step) : Ty
 
 -- the step is taken, as it breaks no limit of its block's budgets
 pub record Takes (w : Budgets) (o : Outcome) (s : Step) (rest : List Step) (n : Outcome) : Type 0
-    where
-  pub next : IsNext w o s rest
-  pub fits : (j : ℕ) → IsOn j (chain w.around (w.node s.block)) → w.held (with_step o s) j
-      ≤ w.limit j
-  pub counts : n.counts ≡ with_step o s
-  pub done : n.done s.block ≡ o.done s.block ++ s ∷ []
-  pub left : n.left s.block ≡ rest
-  pub other_done : (b : ℕ) → ¬ (b ≡ s.block) → n.done b ≡ o.done b
-  pub other_left : (b : ℕ) → ¬ (b ≡ s.block) → n.left b ≡ o.left b
-  pub closed : (j : ℕ) → n.closed j ≡ o.closed j
+  where
+    pub next : IsNext w o s rest
+    pub fits : (j : ℕ) → IsOn j (chain w.around (w.node s.block)) → w.held (with_step o s) j
+        ≤ w.limit j
+    pub counts : n.counts ≡ with_step o s
+    pub done : n.done s.block ≡ o.done s.block ++ s ∷ []
+    pub left : n.left s.block ≡ rest
+    pub other_done : (b : ℕ) → ¬ (b ≡ s.block) → n.done b ≡ o.done b
+    pub other_left : (b : ℕ) → ¬ (b ≡ s.block) → n.left b ≡ o.left b
+    pub closed : (j : ℕ) → n.closed j ≡ o.closed j
 
 -- the step closes a budget of its block, one whose limit it would break
 pub record Closes (w : Budgets) (o : Outcome) (s : Step) (rest : List Step) (j : ℕ) (n : Outcome) :

@@ -16,24 +16,27 @@ pub fn starting()
 
 /// Taking a step keeps what stands between moves, with that step as the front.
 pub fn taking()
-    ensures { (w : Budgets) (steps : ℕ → List Step) (front : Step) (o : Outcome) (s : Step) (rest : List Step) (n : Outcome)
+    ensures { (w : Budgets) (steps : ℕ → List Step) (front : Step) (o : Outcome) (s : Step)
+        (rest : List Step) (n : Outcome)
         → AreBudgets w → Stands w steps front o → Takes w o s rest n → Stands w steps s n }
 {}
 
 /// So does closing a budget, whichever it is of those that the step would break.
 pub fn closing()
-    ensures { (w : Budgets) (steps : ℕ → List Step) (front : Step) (o : Outcome) (s : Step) (rest : List Step) (j : ℕ) (n : Outcome)
+    ensures { (w : Budgets) (steps : ℕ → List Step) (front : Step) (o : Outcome) (s : Step)
+        (rest : List Step) (j : ℕ) (n : Outcome)
         → AreBudgets w → Stands w steps front o → Closes w o s rest j n → Stands w steps s n }
 {}
 
 /// Where no open block has a step left, the walk has settled.
 pub fn settling()
-    ensures { (w : Budgets) (steps : ℕ → List Step) (front : Step) (o : Outcome) → Stands w steps front o
+    ensures { (w : Budgets) (steps : ℕ → List Step) (front : Step) (o : Outcome) →
+        Stands w steps front o
         → ((b : ℕ) → b < w.blocks → nearest w o b ≡ None → o.left b ≡ []) → IsSettled w steps o }
 {}
 
-/// What a settled walk leaves has a gap, which bounds rivals and which the prices of its refused steps
-/// bound.
+/// What a settled walk leaves has a gap, which bounds rivals and which the prices of its refused
+/// steps bound.
 pub fn certificate()
     ensures { (w : Budgets) (steps : ℕ → List Step) (o : Outcome)
         → AreBudgets w → AreSteps w.blocks steps → IsSettled w steps o → HasCertificate w steps o }
@@ -41,7 +44,8 @@ pub fn certificate()
 
 /// The same over all pass counts of all blocks, for the hulls of their points.
 pub fn pass_certificate()
-    ensures { (w : Budgets) (steps : ℕ → List Step) (o : Outcome) (points : ℕ → List Point) (least : ℕ → ℕ)
+    ensures { (w : Budgets) (steps : ℕ → List Step) (o : Outcome) (points : ℕ → List Point)
+        (least : ℕ → ℕ)
         → AreBudgets w → IsSettled w steps o → HaveTerms w steps o points least
         → HasPassCertificate w steps o points least }
 {}

@@ -1,11 +1,13 @@
 -- What the end of a walk says.
-use Rattle.std.proofs.Common.{ℕ, ◌≡◌, ◌+◌, ◌-◌, ◌*◌, ◌/◌, ◌<◌, ◌≤◌, ◌^◌, List, [], ◌∷◌, ◌++◌, length, get_or, Option, Some, None, arith, refl, sym, ap, subst, ◌∙◌}
+use Rattle.std.proofs.Common.{ℕ, ◌≡◌, ◌+◌, ◌-◌, ◌*◌, ◌/◌, ◌<◌, ◌≤◌, ◌^◌, List, [], ◌∷◌, ◌++◌}
+use Rattle.std.proofs.Common.{length, get_or, Option, Some, None, arith, refl, sym, ap, subst, ◌∙◌}
 use Rattle.rd_hulls.specs.declared.step.Step.{Step}
 use Rattle.allocation_bound.specs.Budgets.{base, chain, multiplier, above_base}
 use Rattle.allocation_bound.specs.Ledger.{rounded_up}
 use Rattle.allocation_bound.specs.Laws.{AreSteps}
 use Rattle.allocation_bound.specs.Refused.{slack}
-use Rattle.allocation_bound.specs.Settled.{Budgets, AreBudgets, Outcome, IsSettled, multiplier_of, block_rate}
+use Rattle.allocation_bound.specs.Settled.{Budgets, AreBudgets, Outcome, IsSettled, multiplier_of}
+use Rattle.allocation_bound.specs.Settled.{block_rate}
 use Rattle.allocation_bound.specs.Steps.{Agrees, excess, lens, level, scale}
 use Rattle.allocation_bound.specs.Sums.{upto}
 use Rattle.allocation_bound.specs.Walk.{IsStart}

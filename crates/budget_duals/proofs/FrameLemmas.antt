@@ -1,11 +1,14 @@
 -- The budgets of a frame are nested, and the law of what they hold is that of its `Price`.
-use Rattle.std.proofs.Common.{ℕ, zero, suc, ◌≡◌, ◌+◌, ◌<◌, ◌≤◌, ◌^◌, ◌==◌, inl, inr, IsTrue, Bool, true, false, if◌then◌else◌, List, [], ◌∷◌, length, set, get_or, slice_index_or, Option, Some, None, arith, refl, ap, ◌∙◌}
+use Rattle.std.proofs.Common.{ℕ, zero, suc, ◌≡◌, ◌+◌, ◌<◌, ◌≤◌, ◌^◌, ◌==◌, inl, inr, IsTrue, Bool}
+use Rattle.std.proofs.Common.{true, false, if◌then◌else◌, List, [], ◌∷◌, length, set, get_or}
+use Rattle.std.proofs.Common.{slice_index_or, Option, Some, None, arith, refl, ap, ◌∙◌}
 use Rattle.std.proofs.lemmas.Bool.Decides.{nat_tests}
 use Rattle.cine_nums.specs.declared.budget.Budget.{Budget}
 use Rattle.cine_nums.specs.declared.budget.Budget.TheVariants.{Frame, Inner, C0, C1, C2}
 use Rattle.allocation_bound.specs.Budgets.{IsNested, IsOn, chain}
 use Rattle.allocation_bound.specs.Settled.{Budgets, AreBudgets}
-use Rattle.budget_duals.specs.Frame.{around_each, limit_each, or_none, frame_budgets, AreLow, AreMembers}
+use Rattle.budget_duals.specs.Frame.{around_each, limit_each, or_none, frame_budgets, AreLow}
+use Rattle.budget_duals.specs.Frame.{AreMembers}
 use Rattle.budget_duals.specs.Held.{held_in, limit_in, place_of, IsWithin}
 use Rattle.budget_duals.specs.Members.{is_in}
 use Rattle.budget_duals.specs.Numbered.{node_by, node_in, bytes_in}

@@ -1,5 +1,6 @@
 -- The first closed budget of a list, one budget at a time.
-use Rattle.std.proofs.Common.{ℕ, zero, suc, ◌≡◌, ◌<◌, List, [], ◌∷◌, length, take, get_or, Option, Some, None, is_some, false, arith, refl, ap, ◌∙◌}
+use Rattle.std.proofs.Common.{ℕ, zero, suc, ◌≡◌, ◌<◌, List, [], ◌∷◌, length, take, get_or, Option}
+use Rattle.std.proofs.Common.{Some, None, is_some, false, arith, refl, ap, ◌∙◌}
 use Rattle.rd_hulls.specs.declared.step.Step.{Step}
 use Rattle.allocation_bound.specs.Steps.{level}
 use Rattle.allocation_bound.specs.Budgets.{Closed, nearer, first, base, level_of}

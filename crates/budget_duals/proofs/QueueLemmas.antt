@@ -1,5 +1,6 @@
 -- One entry leaves the heap, and another may take its place.
-use Rattle.std.proofs.Common.{ℕ, ◌≡◌, ◌≢◌, ◌+◌, ◌*◌, ◌<◌, ◌≤◌, ◌⊎◌, inl, inr, false, List, [], ◌∷◌, ◌++◌, None, arith, refl, sym, ap, subst, ◌∙◌}
+use Rattle.std.proofs.Common.{ℕ, ◌≡◌, ◌≢◌, ◌+◌, ◌*◌, ◌<◌, ◌≤◌, ◌⊎◌, inl, inr, false, List, [], ◌∷◌}
+use Rattle.std.proofs.Common.{◌++◌, None, arith, refl, sym, ap, subst, ◌∙◌}
 use Rattle.std.proofs.ByRecursion.{all_shuffled}
 use Rattle.std.proofs.lemmas.Bool.{cases_eq}
 use Rattle.std.proofs.lemmas.Bool.Decides.{nat_tests}
@@ -279,7 +280,8 @@ above_offer s (AtMost bound) left is fall above =
     (λ u below. steep_by s.gain s.len bound.gain bound.len u.gain u.len bound.longer above below)
     left is.1
 
--- THE TOP IS NEXT: a step at the top of the heap is at least as steep as all that open blocks have left
+-- THE TOP IS NEXT: a step at the top of the heap is at least as steep as all that open blocks have
+-- left
 pub top_steepest : (w : Budgets) (o : Outcome) (offered : ℕ → Offer) (items rest : List Entry)
     (x : Entry) (s : HullStep)
     → IsQueue w.blocks offered items → IsPermutation items (x ∷ rest)

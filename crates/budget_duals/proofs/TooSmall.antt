@@ -1,5 +1,6 @@
 -- When a limit is too small.
-use Rattle.std.proofs.Common.{ℕ, zero, suc, ◌≡◌, ◌≤◌, ◌↔◌, Result, Err, arith, sym, ap, subst, ◌∙◌, refl}
+use Rattle.std.proofs.Common.{ℕ, zero, suc, ◌≡◌, ◌≤◌, ◌↔◌, Result, Err, arith, sym, ap, subst, ◌∙◌}
+use Rattle.std.proofs.Common.{refl}
 use Rattle.cine_nums.specs.declared.budget.Budget.{Budget}
 use Rattle.cine_nums.specs.declared.budget.Budget.TheVariants.{Frame, Inner, C0, C1, C2}
 use Rattle.budget_duals.specs.Frame.{IsTooSmall}

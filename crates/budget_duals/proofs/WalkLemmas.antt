@@ -1,5 +1,6 @@
 -- One look at the heap.
-use Rattle.std.proofs.Common.{ℕ, ◌≡◌, ◌≢◌, ◌<◌, ◌≤◌, inl, inr, List, [], ◌∷◌, ◌++◌, length, get_or, None, arith, refl, sym, ap, subst, ◌∙◌}
+use Rattle.std.proofs.Common.{ℕ, ◌≡◌, ◌≢◌, ◌<◌, ◌≤◌, inl, inr, List, [], ◌∷◌, ◌++◌, length, get_or}
+use Rattle.std.proofs.Common.{None, arith, refl, sym, ap, subst, ◌∙◌}
 use Rattle.std.specs.BinaryHeap.{IsHeap, IsUpperBound}
 use Rattle.std.specs.List.{AllByRecursion}
 use Rattle.std.specs.List.Sorted.{IsPermutation}
@@ -22,7 +23,9 @@ use Rattle.budget_duals.specs.Price.{CanTake}
 use Rattle.budget_duals.specs.Queue.{count_at, IsEntry, Refilled}
 use Rattle.budget_duals.specs.Tree.{budgets_of}
 use Rattle.budget_duals.specs.Walking.{Walks, IsNextStep, CanWalk}
-use Rattle.budget_duals.proofs.QueueLemmas.{popped_entry, popped_queue, popped_count, popped_away, queue_stays, refilled_queue, covers_on, covers_dropped, falls_left, top_steepest}
+use Rattle.budget_duals.proofs.QueueLemmas.{popped_entry, popped_queue, popped_count, popped_away}
+use Rattle.budget_duals.proofs.QueueLemmas.{queue_stays, refilled_queue, covers_on, covers_dropped}
+use Rattle.budget_duals.proofs.QueueLemmas.{falls_left, top_steepest}
 
 pub same_budgets : (t : Tree) (b c : ℕ) (n m : ℕ → ℕ) (h k : List ℕ → ℕ → ℕ) → b ≡ c → n ≡ m → h ≡ k
     → budgets_of t b n h ≡ budgets_of t c m k
@@ -74,7 +77,8 @@ module _ (w : Budgets) (steps : ℕ → List HullStep) (most : List ℕ) (o : Ou
               inside = subst (λ b. b < w.blocks) (sym top_own) top_entry.inside;
               open_block = subst (λ b. nearest w o b ≡ None) (sym top_own) is_open;
               head = ap o.left top_own ∙ h.1;
-              steepest = top_steepest w o offered items rest x s going.queue popped upper going.covers
+              steepest = top_steepest w o offered items rest x s going.queue popped upper
+                  going.covers
                   is true_offers left_falls;
             },
           )
@@ -123,7 +127,8 @@ module _ (w : Budgets) (steps : ℕ → List HullStep) (most : List ℕ) (o : Ou
               (queue_stays w.blocks offered now x.block rest others away
               (popped_queue w.blocks offered items rest x going.queue popped)) refilled;
           covers = covers_on w o n (now x.block) items rest new x going.covers
-              (popped_count w.blocks offered items rest x going.queue popped) opens lefts is refilled;
+              (popped_count w.blocks offered items rest x going.queue popped) opens lefts is
+              refilled;
           order = order;
         }
 

@@ -6,9 +6,9 @@ use Rattle.allocation_bound.specs.Settled.{Budgets, Outcome, IsSettled, multipli
 use Rattle.allocation_bound.specs.Laws.{HasCertificate, excess_and_unused}
 use Rattle.budget_duals.specs.Tree.{number_at}
 
--- A choice beside nested budgets, with a multiplier of each and the gap: each budget is within its limit
--- and each block has taken the first of its steps (`settled`), the gap bounds every rival, and refused
--- steps bound the gap (`certificate`).
+-- A choice beside nested budgets, with a multiplier of each and the gap: each budget is within its
+-- limit and each block has taken the first of its steps (`settled`), the gap bounds every rival,
+-- and refused steps bound the gap (`certificate`).
 pub record IsAllocated (w : Budgets) (steps : ℕ → List Step) (o : Outcome) (numbers : List ℕ)
     (g : ℕ) : Type 0 where
   pub settled : IsSettled w steps o

@@ -20,8 +20,8 @@ pub record IsReady (limits : Limits) (highest counts : List ℕ) (inside : ℕ �
     (held : List ℕ → Held)
     (steps : ℕ → List Step) (start : ℕ) : Type 0 where
   pub unpassed : (b : ℕ) → b < length highest → get_or counts b 0 ≡ 0
-  -- The steps of a block follow on from no passes, fall strictly in slope, and lead to no count above the
-  -- block's highest.
+  -- The steps of a block follow on from no passes, fall strictly in slope, and lead to no count
+  -- above the block's highest.
   pub can_walk : CanWalk highest steps
   -- their gains together are at most the distortion with no passes, and their bytes are below 2^32
   pub gain : upto (length highest) (λ b. gains (steps b)) ≤ start
@@ -32,12 +32,12 @@ pub record IsReady (limits : Limits) (highest counts : List ℕ) (inside : ℕ �
   pub members : (b : ℕ) → b < length highest → AreMembers limits.inner (inside b)
   pub none : limits.inner ≡ None → (held counts).inner ≡ 0
 
--- The certificate of a choice beside the budgets w, where blocks have the counts and have taken and left
--- such of their steps.
+-- The certificate of a choice beside the budgets w, where blocks have the counts and have taken and
+-- left such of their steps.
 pub record IsCertificate (w : Budgets) (steps : ℕ → List Step) (counts : List ℕ)
     (done left : ℕ → List Step) (start : ℕ) (c : Certificate) : Type 0 where
-  -- Of each budget the step that closed it, if one did. Each budget is within its limit, and each block
-  -- has taken the first of its steps.
+  -- Of each budget the step that closed it, if one did. Each budget is within its limit, and each
+  -- block has taken the first of its steps.
   pub closed : List (Option Step)
   pub settled : IsSettled w steps (so_far counts done left closed)
   -- the multipliers, over 2^32
@@ -45,8 +45,8 @@ pub record IsCertificate (w : Budgets) (steps : ℕ → List Step) (counts : Lis
       → number_at c.multipliers j ≡ multiplier_of w (so_far counts done left closed) j
   -- the gap of the bound that they give
   pub gap : IsGap (ledger w steps (so_far counts done left closed)) c.gap
-  -- No other way to take the first steps of blocks that fits beside the headers has a distortion below
-  -- the chosen one's, less the gap.
+  -- No other way to take the first steps of blocks that fits beside the headers has a distortion
+  -- below the chosen one's, less the gap.
   pub rivals : (taken rest : ℕ → List Step) → ((b : ℕ) → b < w.blocks → taken b ++ rest b ≡ steps b)
       → FitsBeside (ledger w steps (so_far counts done left closed)) (λ b. lens (taken b))
       → upto w.blocks (λ b. gains (left b)) ≤ upto w.blocks (λ b. gains (rest b)) + c.gap

@@ -1,7 +1,8 @@
 -- The order of entries is total.
 use Rattle.std.specs.Prelude.{◌≤◌}
 use Rattle.std.proofs.Common.{arith}
-use Rattle.std.specs.Cmp.{IsTotalOrder, then_total, back_total, on_total, nat_cmp_total, bool_cmp_total}
+use Rattle.std.specs.Cmp.{IsTotalOrder, then_total, back_total, on_total, nat_cmp_total}
+use Rattle.std.specs.Cmp.{bool_cmp_total}
 use Rattle.rd_hulls.specs.OrderLaws.{slopes_total}
 use Rattle.budget_duals.specs.Entries.{gain_of, len_of, is_bound, entry_cmp}
 use Rattle.budget_duals.specs.declared.entry.Entry.{Entry}

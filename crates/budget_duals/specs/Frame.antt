@@ -14,9 +14,9 @@ use Rattle.budget_duals.specs.declared.held.Held.{Held}
 use Rattle.budget_duals.specs.declared.limits.Limits.{Limits}
 use Rattle.budget_duals.specs.declared.members.Members.{Members}
 
--- The budgets around each of frame, inner, c0, c1 and c2, the nearest first. In a 4K frame a component
--- stands in the 2K portion, and this in the frame; in a 2K frame a component stands in the frame, and no
--- block is in `inner`.
+-- The budgets around each of frame, inner, c0, c1 and c2, the nearest first. In a 4K frame a
+-- component stands in the 2K portion, and this in the frame; in a 2K frame a component stands in
+-- the frame, and no block is in `inner`.
 abbrev pub around_each : Option ℕ → List (List ℕ)
 around_each None = [] ∷ (0 ∷ []) ∷ (0 ∷ []) ∷ (0 ∷ []) ∷ (0 ∷ []) ∷ []
 around_each (Some n) = [] ∷ (0 ∷ []) ∷ (1 ∷ 0 ∷ []) ∷ (1 ∷ 0 ∷ []) ∷ (1 ∷ 0 ∷ []) ∷ []
@@ -31,8 +31,8 @@ limit_each limits =
     limits.frame ∷ or_none limits.inner ∷ slice_index_or limits.component 0 0
     ∷ slice_index_or limits.component 1 0 ∷ slice_index_or limits.component 2 0 ∷ []
 
--- the budgets of a frame of so many blocks, where `inside` has the budgets of each block, and `held` what
--- the budgets hold at any counts of passes
+-- the budgets of a frame of so many blocks, where `inside` has the budgets of each block, and
+-- `held` what the budgets hold at any counts of passes
 abbrev pub frame_budgets : Limits → ℕ → (ℕ → Members) → (List ℕ → Held) → Budgets
 frame_budgets limits blocks inside held = record {
   blocks = blocks;
@@ -59,7 +59,8 @@ pub record AreMembers (inner : Option ℕ) (members : Members) : Type 0 where
   pub none : inner ≡ None → members.inner ≡ false
   pub nested : (n c : ℕ) → inner ≡ Some n → members.component ≡ Some c → members.inner ≡ true
 
--- a refused step of a budget with a multiplier, with the bytes by which a header grows, and its price
+-- a refused step of a budget with a multiplier, with the bytes by which a header grows, and its
+-- price
 abbrev pub refused_one : Budget → ℕ → (Step → ℕ) → Option Step → List RefusedStep
 refused_one budget multiplier more None = []
 refused_one budget multiplier more (Some s) =

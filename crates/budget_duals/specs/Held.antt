@@ -1,6 +1,7 @@
 -- What a codestream holds in its byte budgets, and what it may hold (DCI Digital Cinema System
 -- Specification, section 4).
-use Rattle.std.specs.Prelude.{ℕ, ◌≡◌, ◌+◌, ◌<◌, ◌≤◌, List, [], ◌∷◌, sum, Option, Some, None, if◌then◌else◌}
+use Rattle.std.specs.Prelude.{ℕ, ◌≡◌, ◌+◌, ◌<◌, ◌≤◌, List, [], ◌∷◌, sum, Option, Some, None}
+use Rattle.std.specs.Prelude.{if◌then◌else◌}
 use Rattle.std.specs.Prelude.{take, slice_index_or}
 use Rattle.cine_nums.specs.Limits.{limit_of, has_inner}
 use Rattle.cine_nums.specs.declared.profile.Profile.{Profile}
@@ -16,8 +17,9 @@ abbrev pub inner_of : Profile → ℕ → List ℕ → ℕ
 inner_of TwoK main parts = 0
 inner_of FourK main parts = main + sum (take 3 parts) + 2
 
--- What a codestream holds, by the bytes of its main header and of its tile-parts in order, each from
--- its SOT marker on. EOC has 2 bytes. The first three tile-parts are those of components 0, 1 and 2.
+-- What a codestream holds, by the bytes of its main header and of its tile-parts in order, each
+-- from its SOT marker on. EOC has 2 bytes. The first three tile-parts are those of components 0, 1
+-- and 2.
 abbrev pub held_of : Profile → ℕ → List ℕ → Held
 held_of profile main parts = record {
   frame = main + sum parts + 2;

@@ -1,5 +1,6 @@
 -- Blocks whose steps stand in lists, and how many of each were taken.
-use Rattle.std.specs.Prelude.{ℕ, ◌≡◌, ◌<◌, ◌≤◌, ◌^◌, List, [], ◌∷◌, length, take, drop, get_or, ◌==◌}
+use Rattle.std.specs.Prelude.{ℕ, ◌≡◌, ◌<◌, ◌≤◌, ◌^◌, List, [], ◌∷◌, length, take, drop, get_or}
+use Rattle.std.specs.Prelude.{◌==◌}
 use Rattle.std.specs.List.{filter}
 use Rattle.rd_hulls.specs.declared.step.Step.{Step as HullStep}
 use Rattle.budget_duals.specs.declared.offer.Offer.{Offer}

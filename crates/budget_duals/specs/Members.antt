@@ -1,5 +1,6 @@
 -- In which budgets the bytes of a code-block stand.
-use Rattle.std.specs.Prelude.{ℕ, Bool, true, false, ◌==◌, ◌+◌, zero, suc, nat_lt, if◌then◌else◌, Option, Some, None}
+use Rattle.std.specs.Prelude.{ℕ, Bool, true, false, ◌==◌, ◌+◌, zero, suc, nat_lt, if◌then◌else◌}
+use Rattle.std.specs.Prelude.{Option, Some, None}
 use Rattle.cine_nums.specs.declared.profile.Profile.{Profile}
 use Rattle.cine_nums.specs.declared.profile.Profile.TheVariants.{TwoK, FourK}
 use Rattle.cine_nums.specs.declared.budget.Budget.{Budget}
@@ -7,8 +8,8 @@ use Rattle.cine_nums.specs.declared.budget.Budget.TheVariants.{Frame, Inner, C0,
 use Rattle.budget_duals.specs.declared.members.Members.{Members}
 
 -- The budgets of a block of component c and resolution r, of L levels. In a 2K frame it is the
--- component's tile-part. In a 4K frame the resolutions below the largest one stand in the 2K portion,
--- in the first tile-part of their component; the largest one stands in the frame alone.
+-- component's tile-part. In a 4K frame the resolutions below the largest one stand in the 2K
+-- portion, in the first tile-part of their component; the largest one stands in the frame alone.
 abbrev pub members_of : Profile → ℕ → ℕ → ℕ → Members
 members_of TwoK levels c r = record { inner = false; component = Some c }
 members_of FourK levels c r = record {
@@ -29,8 +30,8 @@ is_in members C0 = is_of members.component 0
 is_in members C1 = is_of members.component 1
 is_in members C2 = is_of members.component 2
 
--- The body bytes of a budget: the bytes that each of the blocks 0 to n - 1 has, over the blocks of the
--- budget. `inside` has each block's budgets.
+-- The body bytes of a budget: the bytes that each of the blocks 0 to n - 1 has, over the blocks of
+-- the budget. `inside` has each block's budgets.
 abbrev pub body_in : (ℕ → Members) → (ℕ → ℕ) → ℕ → Budget → ℕ
 body_in inside bytes zero budget = 0
 body_in inside bytes (suc n) budget =

@@ -16,7 +16,8 @@ HasStep (t ∷ rest) = Unit {0}
 abbrev pub IsNoSteeper : Slope → HullStep → Type 0
 IsNoSteeper bound s = s.gain * bound.len ≤ bound.gain * s.len
 
--- Nothing exactly where no step is left; a step where it is the next one; a bound on all that are left.
+-- Nothing exactly where no step is left; a step where it is the next one; a bound on all that are
+-- left.
 abbrev pub IsOffer : List HullStep → Offer → Type 0
 IsOffer left Nothing = left ≡ []
 IsOffer left (Step s) = IsHead s left

@@ -23,8 +23,8 @@ abbrev pub AgreeBeside : (ℕ → Members) → ℕ → ℕ → List ℕ → List
 AgreeBeside inside blocks b c d =
     (x : ℕ) → x < blocks → inside x ≡ inside b → get_or d x 0 ≡ get_or c x 0
 
--- The law of what budgets hold, for any counts of so many blocks. It compares sums, so that nothing is
--- cut off at 0.
+-- The law of what budgets hold, for any counts of so many blocks. It compares sums, so that nothing
+-- is cut off at 0.
 pub record HasLaw (blocks : ℕ) (inside : ℕ → Members) (held : List ℕ → Held) : Type 0 where
   -- a block's new count changes each of its budgets by one same number
   pub same_change : (c : List ℕ) (b to : ℕ) (i j : Budget) → length c ≡ blocks → b < blocks

@@ -1,5 +1,6 @@
 -- Nested budgets as lists: the budgets around each, and the limits.
-use Rattle.std.specs.Prelude.{ℕ, ◌≡◌, List, [], ◌∷◌, length, map, get_or, nat_lt, if◌then◌else◌, Option, Some, None}
+use Rattle.std.specs.Prelude.{ℕ, ◌≡◌, List, [], ◌∷◌, length, map, get_or, nat_lt, if◌then◌else◌}
+use Rattle.std.specs.Prelude.{Option, Some, None}
 use Rattle.rd_hulls.specs.declared.step.Step.{Step}
 use Rattle.allocation_bound.specs.Budgets.{IsNested}
 use Rattle.allocation_bound.specs.Settled.{Budgets}
@@ -20,7 +21,8 @@ pub record IsTree (tree : Tree) : Type 0 where
   pub nested : IsNested (around_in tree)
   pub long : length tree.around.now ≡ length tree.limits.now
 
--- the budgets of so many blocks, where each block has its innermost one, and what they hold at any counts
+-- the budgets of so many blocks, where each block has its innermost one, and what they hold at any
+-- counts
 abbrev pub budgets_of : Tree → ℕ → (ℕ → ℕ) → (List ℕ → ℕ → ℕ) → Budgets
 budgets_of tree blocks node held = record {
   blocks = blocks;
@@ -35,8 +37,8 @@ budgets_of tree blocks node held = record {
 abbrev pub closed_by : List (Option Step) → ℕ → Option Step
 closed_by closed j = get_or closed j None
 
--- The last budget of a list that holds more than its limit. A block's budgets stand from the innermost
--- to the outermost, so that it is the outermost one.
+-- The last budget of a list that holds more than its limit. A block's budgets stand from the
+-- innermost to the outermost, so that it is the outermost one.
 abbrev pub last_of : Option ℕ → Option ℕ → Option ℕ
 last_of (Some i) here = Some i
 last_of None here = here

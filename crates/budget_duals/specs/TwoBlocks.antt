@@ -1,5 +1,7 @@
--- What the budgets of two blocks hold, for tests: a base, and of each block so many bytes at each count.
-use Rattle.std.specs.Prelude.{ℕ, zero, suc, Bool, true, false, ◌+◌, ◌*◌, ◌%◌, ◌==◌, nat_lt, if◌then◌else◌}
+-- What the budgets of two blocks hold, for tests: a base, and of each block so many bytes at each
+-- count.
+use Rattle.std.specs.Prelude.{ℕ, zero, suc, Bool, true, false, ◌+◌, ◌*◌, ◌%◌, ◌==◌, nat_lt}
+use Rattle.std.specs.Prelude.{if◌then◌else◌}
 use Rattle.std.specs.Prelude.{List, [], ◌∷◌, get_or, slice_index_or, Option, Some, None}
 use Rattle.rd_hulls.specs.declared.step.Step.{Step}
 use Rattle.allocation_bound.specs.Steps.{gains, lens}
@@ -24,7 +26,8 @@ two_parts p q firsts seconds counts =
 
 abbrev pub two_held : Held → Members → Members → List ℕ → List ℕ → List ℕ → Held
 two_held base first second firsts seconds counts = record {
-  frame = low base.frame + (size_at firsts (get_or counts 0 0) + size_at seconds (get_or counts 1 0));
+  frame = low base.frame
+      + (size_at firsts (get_or counts 0 0) + size_at seconds (get_or counts 1 0));
   inner = low base.inner + two_parts first.inner second.inner firsts seconds counts;
   component =
       (low (slice_index_or base.component 0 0)
@@ -87,7 +90,8 @@ member_fits inner m = both (few_component m.component) (nests inner m.inner m.co
 abbrev pub two_fits : Limits → ℕ → Members → Members → List Step → List Step → ℕ → Bool
 two_fits limits inner_held m n first second start =
     both (steps_fit first) (both (steps_fit second) (both (member_fits limits.inner m)
-    (both (member_fits limits.inner n) (both (limits_low limits) (both (few_inner limits.inner inner_held)
+    (both (member_fits limits.inner n)
+    (both (limits_low limits) (both (few_inner limits.inner inner_held)
     (both (nat_lt start 1000000000000000000000000000)
     (both (nat_lt (gains first + gains second) (start + 1))
     (nat_lt (lens first + lens second) 4294967296))))))))

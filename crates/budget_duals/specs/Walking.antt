@@ -22,8 +22,8 @@ Walks w steps o = (front : Step) × Stands w steps front o
 abbrev pub IsNextStep : Budgets → Outcome → Step → Type 0
 IsNextStep w o s = (rest : List Step) × IsNext w o s rest
 
--- Steps that can be taken one after the other: those of a block follow on from no passes, fall in slope,
--- and none leads above the block's highest count.
+-- Steps that can be taken one after the other: those of a block follow on from no passes, fall in
+-- slope, and none leads above the block's highest count.
 pub record CanWalk (most : List ℕ) (steps : ℕ → List Step) : Type 0 where
   pub follow : (b : ℕ) → b < length most → FollowOn 0 (steps b)
   pub fall : (b : ℕ) → b < length most → IsFalling (steps b)

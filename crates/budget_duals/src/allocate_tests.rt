@@ -26,12 +26,14 @@ fn allocate_two(
         (two_held base inside.0 inside.1 bytes.0 bytes.1 (0 ∷ 0 ∷ [])).inner
         inside.0 inside.1 (steps_of 0 steps.now) (steps_of 1 steps.now) start ≡ true }
 {
+    let first_bytes = bytes.0;
+    let second_bytes = bytes.1;
     let mut price = TwoBlocks {
         base,
         first_inside: inside.0,
         second_inside: inside.1,
-        first_bytes: bytes.0,
-        second_bytes: bytes.1,
+        first_bytes,
+        second_bytes,
         first: 0,
         second: 0,
     };

@@ -16,7 +16,8 @@ pub(crate) fn first_entries<O: Offers>(heap: &mut BinaryHeap<Entry>, offers: &O)
     requires order { IsHeap entry_cmp (heap_items heap.old) }
     requires room { O.blocks offers.now ≤ heap_capacity heap.old }
     ensures queue { IsQueue (O.blocks offers.now) (O.offered offers.now) (heap_items heap.new) }
-    ensures covers { (b : ℕ) → b < O.blocks offers.now → (O.left offers.now b ≡ []) ⊎ (1 ≤ count_at b (heap_items heap.new)) }
+    ensures covers { (b : ℕ) → b < O.blocks offers.now →
+        (O.left offers.now b ≡ []) ⊎ (1 ≤ count_at b (heap_items heap.new)) }
     ensures order { IsHeap entry_cmp (heap_items heap.new) }
     ensures len { heap_len heap.new ≤ O.blocks offers.now }
     ensures capacity { O.blocks offers.now ≤ heap_capacity heap.new }

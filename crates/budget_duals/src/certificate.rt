@@ -1,9 +1,10 @@
-// What the allocator tells of its choice.
+// What the allocator reports of its choice.
 use arrayvec::ArrayVec;
 use cine_nums::Budget;
 use rd_hulls::Step;
 
-/// The step that a budget refused, whose slope is the sum of the multipliers of its block's budgets.
+/// The step that a budget refused, whose slope is the sum of the multipliers of its block's
+/// budgets.
 ///
 /// `grow` is by how many bytes the block's packet header would grow, at least 0. `price` is the
 /// step's gain for a byte, for its own bytes and those of `grow`, rounded up.
@@ -47,8 +48,8 @@ pub struct Certificate {
 /// Why there is no choice.
 #[derive(Clone, Copy, Debug, PartialEq, Eq)]
 pub enum AllocateRefusal {
-    /// The empty codestream holds more than a limit: the outermost such budget, and the bytes that it
-    /// holds.
+    /// The empty codestream holds more than a limit: the outermost such budget, and the bytes that
+    /// it holds.
     LimitTooSmall(Budget, u32),
     /// Out of memory.
     Memory,

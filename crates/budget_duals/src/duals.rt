@@ -1,5 +1,6 @@
 // The allocation beside nested budgets: the walk, and what its end says.
-ghost use Rattle.std.specs.Prelude.{ℕ, ◌≡◌, ◌+◌, ◌-◌, ◌*◌, ◌<◌, ◌≤◌, ◌^◌, [], length, get_or, None, IfOk, OnErr};
+ghost use Rattle.std.specs.Prelude.{ℕ, ◌≡◌, ◌+◌, ◌-◌, ◌*◌, ◌<◌, ◌≤◌, ◌^◌, [], length, get_or, None};
+ghost use Rattle.std.specs.Prelude.{IfOk, OnErr};
 ghost use Rattle.allocation_bound.specs.Ledger.{rounded_up};
 ghost use Rattle.allocation_bound.specs.Settled.{AreBudgets};
 ghost use Rattle.allocation_bound.specs.Steps.{Agrees, excess, lens};
@@ -20,8 +21,8 @@ use rd_hulls::Step;
 use std::alloc::{AllocError, Global};
 use std::collections::BinaryHeap;
 
-/// The multipliers of nested budgets (whole numbers over 2^32), the gap, and of each budget the step
-/// that closed it, if one did.
+/// The multipliers of nested budgets (whole numbers over 2^32), the gap, and of each budget the
+/// step that closed it, if one did.
 #[derive(Debug, Drop)]
 pub struct Duals {
     pub multipliers: Vec<u128>,
@@ -29,7 +30,8 @@ pub struct Duals {
     pub closed: Vec<Option<Step>>,
 }
 
-// The gap: what blocks' excess and the budgets' unused bytes are worth together, over 2^32, rounded up.
+// The gap: what blocks' excess and the budgets' unused bytes are worth together, over 2^32, rounded
+// up.
 fn gap_of<O: Offers, H: Holdings>(
     tree: &Tree,
     offers: &mut O,
@@ -40,18 +42,22 @@ fn gap_of<O: Offers, H: Holdings>(
     requires tree { IsTree tree.now }
     requires closed { length closed.now ≡ length tree.now.limits.now }
     requires blocks { length (H.most held.now) ≡ O.blocks offers.old }
-    requires inside { (b : ℕ) → b < O.blocks offers.old → H.node_of held.now b < length tree.now.limits.now }
+    requires inside { (b : ℕ) → b < O.blocks offers.old →
+        H.node_of held.now b < length tree.now.limits.now }
     requires agree { (b : ℕ) → b < O.blocks offers.old →
-        Agrees (rate_by tree.now closed.now (H.node_of held.now) b) (O.done offers.old b) (O.left offers.old b) }
+        Agrees (rate_by tree.now closed.now (H.node_of held.now) b) (O.done offers.old b)
+        (O.left offers.old b) }
     requires bytes { upto (O.blocks offers.old) (λ b. lens (O.left offers.old b)) < 2 ^ 64 }
     requires multipliers { length multipliers.now ≡ length tree.now.limits.now }
     requires few { length tree.now.limits.now ≤ 100 }
     requires limits { (j : ℕ) → j < length tree.now.limits.now → limit_at tree.now j < 2 ^ 25 }
-    requires small { (j : ℕ) → j < length tree.now.limits.now → number_at multipliers.now j < 2 ^ 96 }
+    requires small { (j : ℕ) → j < length tree.now.limits.now →
+        number_at multipliers.now j < 2 ^ 96 }
     ensures gap { result ≡ rounded_up (upto (O.blocks offers.old)
         (λ b. excess (rate_by tree.now closed.now (H.node_of held.now) b) (O.left offers.old b))
         + upto (length tree.now.limits.now)
-        (λ j. number_at multipliers.now j * (limit_at tree.now j - H.held_by held.now (H.chosen held.now) j))) }
+        (λ j. number_at multipliers.now j *
+        (limit_at tree.now j - H.held_by held.now (H.chosen held.now) j))) }
     ensures blocks { O.blocks offers.new ≡ O.blocks offers.old }
     ensures done { O.done offers.new ≡ O.done offers.old }
     ensures left { O.left offers.new ≡ O.left offers.old }
@@ -74,7 +80,7 @@ fn all_open(alloc: Global, budgets: usize) -> Result<Vec<Option<Step>>, AllocErr
     Ok(closed)
 }
 
-// Walks, and tells the gap of what the walk leaves.
+// Walks, and finds the gap of what the walk leaves.
 fn settle<O: Offers, H: Holdings>(
     tree: &Tree,
     offers: &mut O,
@@ -92,8 +98,10 @@ fn settle<O: Offers, H: Holdings>(
     requires done { (b : ℕ) → b < O.blocks offers.old → O.done offers.old b ≡ [] }
     requires can { CanWalk (H.most held.old) (O.left offers.old) }
     requires bytes { upto (O.blocks offers.old) (λ b. lens (O.left offers.old b)) < 2 ^ 64 }
-    requires budgets { AreBudgets (budgets_of tree.now (O.blocks offers.old) (H.node_of held.old) (H.held_by held.old)) }
-    requires within { (j : ℕ) → j < length tree.now.limits.now → H.held_by held.old (H.chosen held.old) j ≤ limit_at tree.now j }
+    requires budgets { AreBudgets
+        (budgets_of tree.now (O.blocks offers.old) (H.node_of held.old) (H.held_by held.old)) }
+    requires within { (j : ℕ) → j < length tree.now.limits.now →
+        H.held_by held.old (H.chosen held.old) j ≤ limit_at tree.now j }
     requires closed { length closed.old ≡ length tree.now.limits.now }
     requires opens { (j : ℕ) → closed_by closed.old j ≡ None }
     requires multipliers { length multipliers.old ≡ length tree.now.limits.now }
@@ -101,8 +109,10 @@ fn settle<O: Offers, H: Holdings>(
     requires empty { heap_len heap.old ≡ 0 }
     requires order { IsHeap entry_cmp (heap_items heap.old) }
     requires room { O.blocks offers.old ≤ heap_capacity heap.old }
-    ensures allocated { IsAllocated (budgets_of tree.now (O.blocks offers.old) (H.node_of held.old) (H.held_by held.old))
-        (O.left offers.old) (so_far (H.chosen held.new) (O.done offers.new) (O.left offers.new) closed.new)
+    ensures allocated { IsAllocated
+        (budgets_of tree.now (O.blocks offers.old) (H.node_of held.old) (H.held_by held.old))
+        (O.left offers.old) (so_far (H.chosen held.new) (O.done offers.new) (O.left offers.new)
+        closed.new)
         multipliers.new result }
     ensures closed { length closed.new ≡ length closed.old }
     ensures multipliers { length multipliers.new ≡ length multipliers.old }
@@ -116,13 +126,13 @@ fn settle<O: Offers, H: Holdings>(
     gap_of(tree, offers, held, closed, multipliers)
 }
 
-/// Chooses steps of blocks beside nested budgets, by a walk from the steepest step to the flattest: a
-/// step is taken where no budget of its block would hold more than its limit, else the outermost
+/// Chooses steps of blocks beside nested budgets, by a walk from the steepest step to the flattest:
+/// a step is taken where no budget of its block would hold more than its limit, else the outermost
 /// budget that would is closed, and its blocks change no more.
 ///
-/// At first no step is taken. `tree` has at most 100 budgets with limits below 2^25 bytes, each within
-/// its limit at first. Only out of memory is refused; it comes before the first step is taken, and
-/// `held` and `offers` are then as they were.
+/// At first no step is taken. `tree` has at most 100 budgets with limits below 2^25 bytes, each
+/// within its limit at first. Only out of memory is refused; it comes before the first step is
+/// taken, and `held` and `offers` are then as they were.
 pub fn allocate_over<O: Offers, H: Holdings>(
     alloc: Global,
     tree: &Tree,
@@ -138,10 +148,15 @@ pub fn allocate_over<O: Offers, H: Holdings>(
     requires done { (b : ℕ) → b < O.blocks offers.old → O.done offers.old b ≡ [] }
     requires can { CanWalk (H.most held.old) (O.left offers.old) }
     requires bytes { upto (O.blocks offers.old) (λ b. lens (O.left offers.old b)) < 2 ^ 64 }
-    requires budgets { AreBudgets (budgets_of tree.now (O.blocks offers.old) (H.node_of held.old) (H.held_by held.old)) }
-    requires within { (j : ℕ) → j < length tree.now.limits.now → H.held_by held.old (H.chosen held.old) j ≤ limit_at tree.now j }
-    ensures ok { IfOk result (λ d. IsAllocated (budgets_of tree.now (O.blocks offers.old) (H.node_of held.old) (H.held_by held.old))
-        (O.left offers.old) (so_far (H.chosen held.new) (O.done offers.new) (O.left offers.new) d.closed.items)
+    requires budgets { AreBudgets
+        (budgets_of tree.now (O.blocks offers.old) (H.node_of held.old) (H.held_by held.old)) }
+    requires within { (j : ℕ) → j < length tree.now.limits.now →
+        H.held_by held.old (H.chosen held.old) j ≤ limit_at tree.now j }
+    ensures ok { IfOk result
+        (λ d. IsAllocated (budgets_of tree.now (O.blocks offers.old) (H.node_of held.old)
+        (H.held_by held.old))
+        (O.left offers.old) (so_far (H.chosen held.new) (O.done offers.new) (O.left offers.new)
+        d.closed.items)
         d.multipliers.items d.gap) }
     ensures closed { IfOk result (λ d. length d.closed.items ≡ length tree.now.limits.now) }
     ensures blocks { O.blocks offers.new ≡ O.blocks offers.old }

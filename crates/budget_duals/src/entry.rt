@@ -5,8 +5,8 @@ ghost use Rattle.budget_duals.specs.Entries.{gain_of, len_of, is_bound};
 use crate::Offer;
 use std::cmp::Ordering;
 
-/// What a block offers, in the order in which offers are looked at: the steepest is the greatest. Of
-/// equal slopes a bound is greater than a step, and then the lower block.
+/// What a block offers, in the order in which offers are looked at: the steepest is the greatest.
+/// Of equal slopes a bound is greater than a step, and then the lower block.
 #[derive(Clone, Copy, Debug)]
 pub(crate) struct Entry {
     pub block: u32,
@@ -72,7 +72,8 @@ impl PartialOrd for Entry {
 
     ghost partial_cmp = { as_partial_cmp entry_cmp };
 
-    ghost laws = { partial_order_from_agreeing_total entry_cmp entry_total (λ _ _. refl) (λ _ _. refl) };
+    ghost laws = { partial_order_from_agreeing_total entry_cmp entry_total (λ _ _. refl)
+        (λ _ _. refl) };
 
     fn partial_cmp(&self, other: &Entry) -> Option<Ordering> {
         Some(self.cmp(other))

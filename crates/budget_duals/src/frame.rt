@@ -1,5 +1,6 @@
 // The allocation beside the budgets of a frame.
-ghost use Rattle.std.specs.Prelude.{ℕ, ◌≡◌, ◌↔◌, ◌+◌, ◌<◌, ◌≤◌, ◌^◌, ◌++◌, [], List, Err, Some, length, map};
+ghost use Rattle.std.specs.Prelude.{ℕ, ◌≡◌, ◌↔◌, ◌+◌, ◌<◌, ◌≤◌, ◌^◌, [], List, Err, Some};
+ghost use Rattle.std.specs.Prelude.{length, map};
 ghost use Rattle.std.specs.Prelude.{IfOk, OnOk, OnErr};
 ghost use Rattle.std.specs.List.{AllByRecursion};
 ghost use Rattle.cine_nums.specs.declared.budget.Budget.{Budget};
@@ -10,7 +11,7 @@ ghost use Rattle.budget_duals.specs.Certified.{IsReady, IsCertificate};
 ghost use Rattle.budget_duals.specs.Frame.{around_each, frame_budgets, or_none, IsTooSmall};
 ghost use Rattle.budget_duals.specs.Held.{IsWithin};
 ghost use Rattle.budget_duals.specs.Listed.{steps_of};
-ghost use Rattle.budget_duals.specs.Listing.{refused_listed};
+ghost use Rattle.budget_duals.specs.Listing.{refused_all};
 ghost use Rattle.budget_duals.specs.Price.{CanTake};
 ghost use Rattle.budget_duals.specs.Tree.{closed_by, number_at};
 ghost use Rattle.budget_duals.specs.declared.certificate.AllocateRefusal.{AllocateRefusal};
@@ -20,7 +21,6 @@ use crate::{
     AllocateRefusal, Certificate, Duals, Holdings, Limits, ListedOffers, Offers, Price, Tree,
     allocate_over,
 };
-use cine_nums::Budget;
 use rd_hulls::Step;
 use std::alloc::{AllocError, Global};
 
@@ -37,15 +37,13 @@ fn certificate_of<O: Offers, P: Price>(
         CanTake (P.highest price.now) (P.counts price.now) s }
     requires start { start < 2 ^ 90 }
     requires gains { upto (O.blocks offers.now) (λ b. gains (O.done offers.now b)) ≤ start }
-    ensures multipliers { (j : ℕ) → j < 5 → number_at result.multipliers j ≡ number_at duals.now.multipliers.items j }
+    ensures multipliers { (j : ℕ) → j < 5 → number_at result.multipliers j
+        ≡ number_at duals.now.multipliers.items j }
     ensures gap { result.gap ≡ duals.now.gap }
-    ensures distortion { result.distortion + upto (O.blocks offers.now) (λ b. gains (O.done offers.now b)) ≡ start }
-    ensures refused { result.refused.items ≡
-        refused_listed (⟦<P as Holdings>⟧.held_by price.now) (P.counts price.now) duals.now.multipliers.items duals.now.closed.items Budget.Frame
-        ++ refused_listed (⟦<P as Holdings>⟧.held_by price.now) (P.counts price.now) duals.now.multipliers.items duals.now.closed.items Budget.Inner
-        ++ refused_listed (⟦<P as Holdings>⟧.held_by price.now) (P.counts price.now) duals.now.multipliers.items duals.now.closed.items Budget.C0
-        ++ refused_listed (⟦<P as Holdings>⟧.held_by price.now) (P.counts price.now) duals.now.multipliers.items duals.now.closed.items Budget.C1
-        ++ refused_listed (⟦<P as Holdings>⟧.held_by price.now) (P.counts price.now) duals.now.multipliers.items duals.now.closed.items Budget.C2 }
+    ensures distortion { result.distortion
+        + upto (O.blocks offers.now) (λ b. gains (O.done offers.now b)) ≡ start }
+    ensures refused { result.refused.items ≡ refused_all (⟦<P as Holdings>⟧.held_by price.now)
+        (P.counts price.now) duals.now.multipliers.items duals.now.closed.items }
 {
     let of = &duals.multipliers;
     Certificate {
@@ -77,11 +75,13 @@ fn allocate_around<O: Offers, P: Price>(
 ) -> Result<Certificate, AllocError>
     requires blocks { O.blocks offers.old ≡ length (P.highest price.old) }
     requires done { (b : ℕ) → b < O.blocks offers.old → O.done offers.old b ≡ [] }
-    requires ready { IsReady limits.now (P.highest price.old) (P.counts price.old) (P.inside_of price.old) (P.held_for price.old) (O.left offers.old) start }
+    requires ready { IsReady limits.now (P.highest price.old) (P.counts price.old)
+        (P.inside_of price.old) (P.held_for price.old) (O.left offers.old) start }
     requires around { map (λ row. row.now) around.now ≡ around_each limits.now.inner }
     requires within { IsWithin limits.now (P.held_for price.old (P.counts price.old)) }
     ensures certified { IfOk result (λ c. IsCertificate
-        (frame_budgets limits.now (O.blocks offers.old) (P.inside_of price.old) (P.held_for price.old))
+        (frame_budgets limits.now (O.blocks offers.old) (P.inside_of price.old)
+        (P.held_for price.old))
         (O.left offers.old) (P.counts price.new) (O.done offers.new) (O.left offers.new) start c) }
     ensures keeps { P.keeps price.old price.new }
     ensures stays { O.stays offers.old offers.new }
@@ -114,10 +114,12 @@ fn allocate_within<O: Offers, P: Price>(
 ) -> Result<Certificate, AllocError>
     requires blocks { O.blocks offers.old ≡ length (P.highest price.old) }
     requires done { (b : ℕ) → b < O.blocks offers.old → O.done offers.old b ≡ [] }
-    requires ready { IsReady limits.now (P.highest price.old) (P.counts price.old) (P.inside_of price.old) (P.held_for price.old) (O.left offers.old) start }
+    requires ready { IsReady limits.now (P.highest price.old) (P.counts price.old)
+        (P.inside_of price.old) (P.held_for price.old) (O.left offers.old) start }
     requires within { IsWithin limits.now (P.held_for price.old (P.counts price.old)) }
     ensures certified { IfOk result (λ c. IsCertificate
-        (frame_budgets limits.now (O.blocks offers.old) (P.inside_of price.old) (P.held_for price.old))
+        (frame_budgets limits.now (O.blocks offers.old) (P.inside_of price.old)
+        (P.held_for price.old))
         (O.left offers.old) (P.counts price.new) (O.done offers.new) (O.left offers.new) start c) }
     ensures keeps { P.keeps price.old price.new }
     ensures stays { O.stays offers.old offers.new }
@@ -132,18 +134,19 @@ fn allocate_within<O: Offers, P: Price>(
     }
 }
 
-/// Chooses passes of code-blocks beside the byte budgets of a frame, by a walk from the steepest step
-/// to the flattest, and reports how far the choice can be from the best one. No step is taken at first.
+/// Chooses passes of code-blocks beside the byte budgets of a frame, by a walk from the steepest
+/// step to the flattest, and reports how far the choice can be from the best one. No step is taken
+/// at first.
 ///
-/// A step is taken where each budget of its block would still be within its limit, headers included.
-/// Else the outermost budget that would not is closed by the step, and its blocks change no more.
-/// `start` is the distortion with no passes, below 2^90; `offers` and `price` are of the same blocks,
-/// which are numbered from 0, and of no passes. Limits are below 2^22 bytes. The certificate's
-/// multipliers are over 2^32 and stand in the order frame, inner, c0, c1, c2.
+/// A step is taken where each budget of its block would still be within its limit, headers
+/// included. Else the outermost budget that would not is closed by the step, and its blocks change
+/// no more. `start` is the distortion with no passes, below 2^90; `offers` and `price` are of the
+/// same blocks, which are numbered from 0, and of no passes. Limits are below 2^22 bytes. The
+/// certificate's multipliers are over 2^32 and stand in the order frame, inner, c0, c1, c2.
 ///
-/// Refused with `LimitTooSmall` exactly if a budget holds more than its limit at first: the outermost
-/// such budget, and the bytes that it holds. It comes before `Memory`. After both, `price` and
-/// `offers` are as they were.
+/// Refused with `LimitTooSmall` exactly if a budget holds more than its limit at first: the
+/// outermost such budget, and the bytes that it holds. It comes before `Memory`. After both,
+/// `price` and `offers` are as they were.
 pub fn allocate_offers<O: Offers, P: Price>(
     alloc: Global,
     start: u128,
@@ -153,12 +156,14 @@ pub fn allocate_offers<O: Offers, P: Price>(
 ) -> Result<Certificate, AllocateRefusal>
     requires blocks { O.blocks offers.old ≡ length (P.highest price.old) }
     requires done { (b : ℕ) → b < O.blocks offers.old → O.done offers.old b ≡ [] }
-    requires ready { IsReady limits.now (P.highest price.old) (P.counts price.old) (P.inside_of price.old) (P.held_for price.old) (O.left offers.old) start }
+    requires ready { IsReady limits.now (P.highest price.old) (P.counts price.old)
+        (P.inside_of price.old) (P.held_for price.old) (O.left offers.old) start }
     ensures too_small { (budget : Budget) (needed : ℕ) →
         (result ≡ Err (AllocateRefusal.LimitTooSmall budget needed)) ↔
         IsTooSmall limits.now (P.held_for price.old (P.counts price.old)) budget needed }
     ensures certified { IfOk result (λ c. IsCertificate
-        (frame_budgets limits.now (O.blocks offers.old) (P.inside_of price.old) (P.held_for price.old))
+        (frame_budgets limits.now (O.blocks offers.old) (P.inside_of price.old)
+        (P.held_for price.old))
         (O.left offers.old) (P.counts price.new) (O.done offers.new) (O.left offers.new) start c) }
     ensures within { OnOk result (IsWithin limits.now (P.held_for price.old (P.counts price.new))) }
     ensures keeps { P.keeps price.old price.new }
@@ -177,7 +182,8 @@ pub fn allocate_offers<O: Offers, P: Price>(
     }
 }
 
-/// The same over whole lists: `steps` has the steps of all blocks, those of each block in their order.
+/// The same over whole lists: `steps` has the steps of all blocks, those of each block in their
+/// order.
 pub fn allocate<P: Price>(
     alloc: Global,
     start: u128,
@@ -186,12 +192,15 @@ pub fn allocate<P: Price>(
     price: &mut P,
 ) -> Result<Certificate, AllocateRefusal>
     requires blocks { AllByRecursion (λ s. s.block < length (P.highest price.old)) steps.items }
-    requires ready { IsReady limits.now (P.highest price.old) (P.counts price.old) (P.inside_of price.old) (P.held_for price.old) (λ b. steps_of b steps.items) start }
+    requires ready { IsReady limits.now (P.highest price.old) (P.counts price.old)
+        (P.inside_of price.old) (P.held_for price.old) (λ b. steps_of b steps.items) start }
     ensures too_small { (budget : Budget) (needed : ℕ) →
         (result ≡ Err (AllocateRefusal.LimitTooSmall budget needed)) ↔
         IsTooSmall limits.now (P.held_for price.old (P.counts price.old)) budget needed }
-    ensures certified { IfOk result (λ c. (done : ℕ → List Step) × ((left : ℕ → List Step) × IsCertificate
-        (frame_budgets limits.now (length (P.highest price.old)) (P.inside_of price.old) (P.held_for price.old))
+    ensures certified { IfOk result
+        (λ c. (done : ℕ → List Step) × ((left : ℕ → List Step) × IsCertificate
+        (frame_budgets limits.now (length (P.highest price.old)) (P.inside_of price.old)
+        (P.held_for price.old))
         (λ b. steps_of b steps.items) (P.counts price.new) done left start c)) }
     ensures within { OnOk result (IsWithin limits.now (P.held_for price.old (P.counts price.new))) }
     ensures keeps { P.keeps price.old price.new }

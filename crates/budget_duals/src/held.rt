@@ -7,9 +7,9 @@ use cine_nums::{Budget, Profile};
 
 /// The bytes that a codestream holds in each budget, headers included.
 ///
-/// `frame` is the whole codestream. `inner` is the 2K portion of a 4K codestream (main header, first
-/// three tile-parts, EOC), and 0 for 2K. `component` has the tile-part of each component, from its
-/// SOT marker on; for 4K the first one of each.
+/// `frame` is the whole codestream. `inner` is the 2K portion of a 4K codestream (main header,
+/// first three tile-parts, EOC), and 0 for 2K. `component` has the tile-part of each component,
+/// from its SOT marker on; for 4K the first one of each.
 #[derive(Clone, Copy, Debug, PartialEq, Eq)]
 pub struct Held {
     pub frame: u32,

@@ -9,8 +9,8 @@ use rd_hulls::Step;
 
 /// A choice of passes, one count a block, and what nested budgets hold at it, headers included.
 ///
-/// Blocks and budgets are numbered from 0. No call takes memory or refuses. Each `Price` is one, with
-/// the budgets frame, inner, c0, c1 and c2.
+/// Blocks and budgets are numbered from 0. No call takes memory or refuses. Each `Price` is one,
+/// with the budgets frame, inner, c0, c1 and c2.
 pub trait Holdings {
     /// The highest count of each block.
     ghost most: { Self → List ℕ };
@@ -39,7 +39,8 @@ pub trait Holdings {
     /// What a budget would hold with a step taken, in bytes.
     fn held_with(&self, step: &Step, budget: u32) -> u32
         requires { CanTake (most self.now) (chosen self.now) step.now }
-        ensures { result ≡ held_by self.now (set (chosen self.now) step.now.block step.now.to) budget };
+        ensures { result ≡ held_by self.now (set (chosen self.now) step.now.block step.now.to)
+            budget };
 
     /// The outermost of its block's budgets that would hold more than its limit with a step taken.
     fn breaks(&self, tree: &Tree, step: &Step) -> Option<u32>

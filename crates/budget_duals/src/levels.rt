@@ -38,8 +38,8 @@ fn base_of(budgets: &[u32], closed: &[Option<Step>]) -> u128
     0
 }
 
-// The sum of the multipliers of a block's budgets, where its innermost budget is this one: the level of
-// the nearest closed one.
+// The sum of the multipliers of a block's budgets, where its innermost budget is this one: the
+// level of the nearest closed one.
 pub(crate) fn rate_at(tree: &Tree, node: u32, closed: &[Option<Step>]) -> u128
     requires tree { IsTree tree.now }
     requires node { node < length tree.now.limits.now }

@@ -4,8 +4,13 @@
 //! A frame has up to five byte budgets, one around the other (DCI Digital Cinema System
 //! Specification, section 4): the whole codestream, for 4K its 2K portion, and a tile-part a
 //! component. `Held` is what a codestream holds in each, `Limits` what it may hold, `Members` in
-//! which of them a code-block's bytes stand. `Price` tells what the budgets hold at the present
-//! choice, headers included, and after one step more.
+//! which of them a code-block's bytes stand. `Price` reports what the budgets hold at the present
+//! choice, headers included, and after one step more. `Offers` are the blocks, each of which offers
+//! the steps of its hull one after the other.
+//!
+//! `allocate` chooses among whole lists of steps, and `allocate_offers`, of which it is made, among
+//! what blocks offer: each reports a `Certificate` with a multiplier for each budget, the gap and the
+//! refused steps. `allocate_over` does the same beside any tree of nested budgets.
 #![tactic(auto)]
 
 #[cfg(test)]

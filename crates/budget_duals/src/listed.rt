@@ -1,10 +1,12 @@
 // Offers over whole lists of steps.
-ghost use Rattle.std.specs.Prelude.{ℕ, ◌≡◌, ◌==◌, ◌<◌, ◌≤◌, ◌+◌, ◌*◌, ◌^◌, [], List, length, map, slice_index, slice_index_or, IfOk, OnOk};
+ghost use Rattle.std.specs.Prelude.{ℕ, ◌≡◌, ◌==◌, ◌<◌, ◌≤◌, ◌+◌, ◌*◌, ◌^◌, [], List, length, map};
+ghost use Rattle.std.specs.Prelude.{slice_index, slice_index_or, IfOk, OnOk};
 ghost use Rattle.std.specs.List.{AllByRecursion};
 ghost use Rattle.std.proofs.Props.{props};
 ghost use Rattle.rd_hulls.specs.declared.step.Step.{Step};
 ghost use Rattle.allocation_bound.specs.Steps.{Agrees, excess, gains, scale};
-ghost use Rattle.budget_duals.specs.Listed.{AreRows, list_at, done_at, left_at, offer_of, offer_at, steps_of};
+ghost use Rattle.budget_duals.specs.Listed.{AreRows, list_at, done_at, left_at, offer_of, offer_at};
+ghost use Rattle.budget_duals.specs.Listed.{steps_of};
 
 use crate::{Offer, Offers};
 use rd_hulls::Step;
@@ -14,7 +16,8 @@ use std::alloc::{AllocError, Global};
 fn excess_over(steps: &[Step], multiplier: u128) -> u128
     requires few { length steps.now < 2 ^ 32 }
     requires multiplier { multiplier < 2 ^ 96 }
-    requires untaken { AllByRecursion (λ (s : Step). scale * s.gain < (multiplier + 1) * s.len) steps.now }
+    requires untaken { AllByRecursion (λ (s : Step). scale * s.gain < (multiplier + 1) * s.len)
+        steps.now }
     ensures { result ≡ excess multiplier steps.now }
 {
     let mut sum: u128 = 0;
@@ -58,9 +61,11 @@ fn empty_rows(alloc: Global, blocks: u32) -> Result<Vec<Vec<Step>>, AllocError>
 
 // Puts each step to those of its block.
 fn fill_rows(rows: &mut Vec<Vec<Step>>, steps: &[Step]) -> Result<(), AllocError>
-    requires blocks { AllByRecursion (λ s. s.block < length (map (λ row. row.items) rows.old.items)) steps.now }
+    requires blocks { AllByRecursion (λ s. s.block < length (map (λ row. row.items) rows.old.items))
+        steps.now }
     requires none { (b : ℕ) → list_at (map (λ row. row.items) rows.old.items) b ≡ [] }
-    ensures many { length (map (λ row. row.items) rows.new.items) ≡ length (map (λ row. row.items) rows.old.items) }
+    ensures many { length (map (λ row. row.items) rows.new.items)
+        ≡ length (map (λ row. row.items) rows.old.items) }
     ensures filled { OnOk result ((b : ℕ) → b < length (map (λ row. row.items) rows.old.items) →
         list_at (map (λ row. row.items) rows.new.items) b ≡ steps_of b steps.now) }
 {
@@ -71,13 +76,14 @@ fn fill_rows(rows: &mut Vec<Vec<Step>>, steps: &[Step]) -> Result<(), AllocError
 }
 
 impl ListedOffers {
-    /// The steps of so many blocks from one list, in which those of each block stand in their order.
-    /// None is taken.
+    /// The steps of so many blocks from one list, in which those of each block stand in their
+    /// order. None is taken.
     pub fn of_list(alloc: Global, blocks: u32, steps: &[Step]) -> Result<ListedOffers, AllocError>
         requires few { length steps.now < 2 ^ 32 }
         requires blocks { AllByRecursion (λ s. s.block < blocks) steps.now }
         ensures blocks { IfOk result (λ o. ⟦<ListedOffers as Offers>⟧.blocks o ≡ blocks) }
-        ensures done { IfOk result (λ o. (b : ℕ) → b < blocks → ⟦<ListedOffers as Offers>⟧.done o b ≡ []) }
+        ensures done { IfOk result
+            (λ o. (b : ℕ) → b < blocks → ⟦<ListedOffers as Offers>⟧.done o b ≡ []) }
         ensures left { IfOk result (λ o. (b : ℕ) →
             ⟦<ListedOffers as Offers>⟧.left o b ≡ steps_of b steps.now) }
     {
@@ -112,7 +118,8 @@ impl Offers for ListedOffers {
 
     ghost true_offers = { λ o b below. true_at (map (λ v. v.items) o.rows.items) o.places.items b };
 
-    ghost own_steps = { λ o b below. own_at (map (λ v. v.items) o.rows.items) o.places.items b o.listed below };
+    ghost own_steps = { λ o b below. own_at (map (λ v. v.items) o.rows.items) o.places.items b
+        o.listed below };
 
     fn count(&self) -> u32 {
         self.places.len() as u32

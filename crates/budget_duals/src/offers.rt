@@ -8,8 +8,8 @@ ghost use Rattle.budget_duals.specs.Offers.{IsOffer, IsAtMost, HasBlock};
 use crate::Offer;
 use rd_hulls::Step;
 
-/// Code-blocks that offer the steps of their hulls one after the other, or say how steep the next one
-/// can be at most.
+/// Code-blocks that offer the steps of their hulls one after the other, or say how steep the next
+/// one can be at most.
 ///
 /// Which steps a block has never changes: those that were taken, and then those that are left. They
 /// need not be stored, nor be known yet. Blocks are numbered from 0.
@@ -60,7 +60,8 @@ pub trait Offers {
         requires offered { offered self.old step.now.block ≡ Offer.Step step.now }
         ensures blocks { blocks self.new ≡ blocks self.old }
         ensures left { left self.old step.now.block ≡ step.now ∷ left self.new step.now.block }
-        ensures done { done self.new step.now.block ≡ done self.old step.now.block ++ step.now ∷ [] }
+        ensures done { done self.new step.now.block ≡ done self.old step.now.block ++ step.now
+            ∷ [] }
         ensures other_left { (k : ℕ) → k ≢ step.now.block → left self.new k ≡ left self.old k }
         ensures other_done { (k : ℕ) → k ≢ step.now.block → done self.new k ≡ done self.old k }
         ensures keeps { (k : ℕ) → k < blocks self.old → unknown self.new k ≤ unknown self.old k }
@@ -74,9 +75,9 @@ pub trait Offers {
         requires small { gains (done self.now block) < 2 ^ 90 }
         ensures { result ≡ gains (done self.now block) };
 
-    /// By how much the steps that are left are above a multiplier (over 2^32) that lies between them
-    /// and those that were taken: the sum of what 2^32 times each one's gain has above its bytes times
-    /// the multiplier, and nothing where it has less. It may learn more of the block.
+    /// By how much the steps that are left are above a multiplier (over 2^32) that lies between
+    /// them and those that were taken: the sum of what 2^32 times each one's gain has above its
+    /// bytes times the multiplier, and nothing where it has less. It may learn more of the block.
     fn excess(&mut self, block: u32, multiplier: u128) -> u128
         requires block { block < blocks self.old }
         requires multiplier { multiplier < 2 ^ 96 }

@@ -13,7 +13,8 @@ pub(crate) fn refill<O: Offers>(heap: &mut BinaryHeap<Entry>, offers: &O, block:
     requires block { block < O.blocks offers.now }
     requires room { heap_len heap.old < heap_capacity heap.old }
     requires order { IsHeap entry_cmp (heap_items heap.old) }
-    ensures refilled { Refilled block (O.offered offers.now block) (heap_items heap.old) (heap_items heap.new) }
+    ensures refilled { Refilled block (O.offered offers.now block) (heap_items heap.old)
+        (heap_items heap.new) }
     ensures order { IsHeap entry_cmp (heap_items heap.new) }
     ensures len { heap_len heap.new ≤ heap_len heap.old + 1 }
     ensures capacity { heap_capacity heap.old ≤ heap_capacity heap.new }

@@ -7,7 +7,7 @@ ghost use Rattle.allocation_bound.specs.Refused.{price};
 ghost use Rattle.allocation_bound.specs.Steps.{gains};
 ghost use Rattle.allocation_bound.specs.Sums.{upto};
 ghost use Rattle.budget_duals.specs.Held.{place_of};
-ghost use Rattle.budget_duals.specs.Listing.{refused_listed};
+ghost use Rattle.budget_duals.specs.Listing.{refused_all, refused_listed};
 ghost use Rattle.budget_duals.specs.Price.{CanTake};
 ghost use Rattle.budget_duals.specs.Tree.{closed_by};
 
@@ -42,7 +42,8 @@ fn price_of(step: &Step, more: u32) -> u128
 // By how many bytes a budget would grow with a step taken, beyond those of the step itself.
 fn grow_of<H: Holdings>(held: &H, step: &Step, budget: u32) -> u32
     requires { CanTake (H.most held.now) (H.chosen held.now) step.now }
-    ensures { result ≡ H.held_by held.now (set (H.chosen held.now) step.now.block step.now.to) budget
+    ensures { result ≡ H.held_by held.now (set (H.chosen held.now) step.now.block step.now.to)
+        budget
         - (H.held_by held.now (H.chosen held.now) budget + step.now.len) }
 {
     let before = held.held_now(budget);
@@ -64,7 +65,8 @@ fn add_refused<H: Holdings>(
     requires can { (j : ℕ) (s : Step) → closed_by closed.now j ≡ Some s →
         CanTake (H.most held.now) (H.chosen held.now) s }
     ensures items { out.new.items ≡ out.old.items
-        ++ refused_listed (H.held_by held.now) (H.chosen held.now) multipliers.now closed.now budget }
+        ++ refused_listed (H.held_by held.now) (H.chosen held.now) multipliers.now closed.now
+        budget }
     ensures len { array_vec_len out.new ≤ array_vec_len out.old + 1 }
 {
     let number = place(budget);
@@ -92,12 +94,8 @@ pub(crate) fn refused_list<H: Holdings>(
     requires closed { length closed.now ≡ 5 }
     requires can { (j : ℕ) (s : Step) → closed_by closed.now j ≡ Some s →
         CanTake (H.most held.now) (H.chosen held.now) s }
-    ensures { result.items ≡
-        refused_listed (H.held_by held.now) (H.chosen held.now) multipliers.now closed.now Budget.Frame
-        ++ refused_listed (H.held_by held.now) (H.chosen held.now) multipliers.now closed.now Budget.Inner
-        ++ refused_listed (H.held_by held.now) (H.chosen held.now) multipliers.now closed.now Budget.C0
-        ++ refused_listed (H.held_by held.now) (H.chosen held.now) multipliers.now closed.now Budget.C1
-        ++ refused_listed (H.held_by held.now) (H.chosen held.now) multipliers.now closed.now Budget.C2 }
+    ensures { result.items
+        ≡ refused_all (H.held_by held.now) (H.chosen held.now) multipliers.now closed.now }
 {
     let mut out = ArrayVec::new();
     add_refused(&mut out, held, multipliers, closed, Budget::Frame);

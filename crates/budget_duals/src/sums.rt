@@ -21,9 +21,11 @@ pub(crate) fn excess_sum<O: Offers, H: Holdings>(
     requires tree { IsTree tree.now }
     requires closed { length closed.now ≡ length tree.now.limits.now }
     requires blocks { length (H.most held.now) ≡ O.blocks offers.old }
-    requires inside { (b : ℕ) → b < O.blocks offers.old → H.node_of held.now b < length tree.now.limits.now }
+    requires inside { (b : ℕ) → b < O.blocks offers.old →
+        H.node_of held.now b < length tree.now.limits.now }
     requires agree { (b : ℕ) → b < O.blocks offers.old →
-        Agrees (rate_by tree.now closed.now (H.node_of held.now) b) (O.done offers.old b) (O.left offers.old b) }
+        Agrees (rate_by tree.now closed.now (H.node_of held.now) b) (O.done offers.old b)
+        (O.left offers.old b) }
     requires few { upto (O.blocks offers.old) (λ b. lens (O.left offers.old b)) < 2 ^ 64 }
     ensures sum { result ≡ upto (O.blocks offers.old)
         (λ b. excess (rate_by tree.now closed.now (H.node_of held.now) b) (O.left offers.old b)) }
@@ -60,9 +62,11 @@ pub(crate) fn unused_sum<H: Holdings>(tree: &Tree, held: &H, multipliers: &[u128
     requires multipliers { length multipliers.now ≡ length tree.now.limits.now }
     requires few { length tree.now.limits.now ≤ 100 }
     requires limits { (j : ℕ) → j < length tree.now.limits.now → limit_at tree.now j < 2 ^ 25 }
-    requires small { (j : ℕ) → j < length tree.now.limits.now → number_at multipliers.now j < 2 ^ 96 }
+    requires small { (j : ℕ) → j < length tree.now.limits.now →
+        number_at multipliers.now j < 2 ^ 96 }
     ensures sum { result ≡ upto (length tree.now.limits.now)
-        (λ j. number_at multipliers.now j * (limit_at tree.now j - H.held_by held.now (H.chosen held.now) j)) }
+        (λ j. number_at multipliers.now j *
+        (limit_at tree.now j - H.held_by held.now (H.chosen held.now) j)) }
     ensures small { result ≤ 100 * 2 ^ 121 }
 {
     let mut sum: u128 = 0;

@@ -1,8 +1,10 @@
 // Nested byte budgets, numbered from the outermost.
-ghost use Rattle.std.specs.Prelude.{ℕ, ◌≡◌, ◌<◌, ◌↔◌, IsTrue, length, Some, None, is_some, nat_lt, if◌then◌else◌};
+ghost use Rattle.std.specs.Prelude.{ℕ, ◌≡◌, ◌<◌, ◌↔◌, IsTrue, length, Some, None, is_some, nat_lt};
+ghost use Rattle.std.specs.Prelude.{if◌then◌else◌};
 ghost use Rattle.std.specs.List.{AllByRecursion};
 ghost use Rattle.allocation_bound.specs.Budgets.{chain, first};
-ghost use Rattle.budget_duals.specs.Tree.{IsTree, around_in, limit_at, number_at, closed_by, last_of, outermost};
+ghost use Rattle.budget_duals.specs.Tree.{IsTree, around_in, limit_at, number_at, closed_by};
+ghost use Rattle.budget_duals.specs.Tree.{last_of, outermost};
 
 use rd_hulls::Step;
 
@@ -51,7 +53,9 @@ fn number(numbers: &[u32], budget: u32) -> u32
 // A budget where it holds more than its limit, else the one that was found before.
 fn broken_or(budget: u32, found: Option<u32>, limits: &[u32], held: &[u32]) -> Option<u32>
     requires { budget < length limits.now }
-    ensures { result ≡ last_of (if nat_lt (number_at limits.now budget) (number_at held.now budget) then Some budget else None) found }
+    ensures { result ≡ last_of
+        (if nat_lt (number_at limits.now budget) (number_at held.now budget) then Some budget else
+        None) found }
 {
     if number(held, budget) > limits[budget as usize] {
         Some(budget)
@@ -78,7 +82,8 @@ impl<'a> Tree<'a> {
         requires tree { IsTree self.now }
         requires node { node < length self.now.limits.now }
         requires closed { length closed.now ≡ length self.now.limits.now }
-        ensures { IsTrue result ↔ (first (closed_by closed.now) (chain (around_in self.now) node) ≡ None) }
+        ensures { IsTrue result ↔
+            (first (closed_by closed.now) (chain (around_in self.now) node) ≡ None) }
     {
         closed[node as usize].is_none() && none_closed(self.around[node as usize], closed)
     }
@@ -88,7 +93,8 @@ impl<'a> Tree<'a> {
     pub fn outermost_broken(&self, node: u32, held: &[u32]) -> Option<u32>
         requires tree { IsTree self.now }
         requires node { node < length self.now.limits.now }
-        ensures { result ≡ outermost (limit_at self.now) (number_at held.now) (chain (around_in self.now) node) }
+        ensures { result ≡ outermost (limit_at self.now) (number_at held.now)
+            (chain (around_in self.now) node) }
     {
         match last_broken(self.around[node as usize], self.limits, held) {
             Some(j) => Some(j),

@@ -99,17 +99,20 @@ impl Price for TwoBlocks {
 
     ghost counts = { λ s. s.first ∷ s.second ∷ [] };
 
-    ghost held_for = { λ s c. two_held s.base s.first_inside s.second_inside s.first_bytes s.second_bytes c };
+    ghost held_for = { λ s c. two_held s.base s.first_inside s.second_inside s.first_bytes
+        s.second_bytes c };
 
     ghost inside_of = { λ s b. two_inside s.first_inside s.second_inside b };
 
-    ghost keeps = { λ s t. (two_held t.base t.first_inside t.second_inside t.first_bytes t.second_bytes
+    ghost keeps = { λ s t.
+        (two_held t.base t.first_inside t.second_inside t.first_bytes t.second_bytes
         ≡ two_held s.base s.first_inside s.second_inside s.first_bytes s.second_bytes)
         × (two_inside t.first_inside t.second_inside ≡ two_inside s.first_inside s.second_inside) };
 
     ghost are_counts = { λ s. two_counts s.first s.second s.first_few s.second_few };
 
-    ghost has_law = { λ s. two_law s.base s.first_inside s.second_inside s.first_bytes s.second_bytes };
+    ghost has_law = { λ s. two_law s.base s.first_inside s.second_inside s.first_bytes
+        s.second_bytes };
 
     ghost keeps_itself = { λ s. (refl, refl) };
 

@@ -13,8 +13,9 @@ use crate::{Holdings, Offers, Tree};
 use rd_hulls::Step;
 use std::collections::BinaryHeap;
 
-// Looks at the steepest offer of all, until none is left: takes its step where no budget of its block
-// is closed and none breaks, closes the outermost budget that breaks, or learns more of its block.
+// Looks at the steepest offer of all, until none is left: takes its step where no budget of its
+// block is closed and none breaks, closes the outermost budget that breaks, or learns more of its
+// block.
 pub(crate) fn walk<O: Offers, H: Holdings>(
     tree: &Tree,
     offers: &mut O,
@@ -25,15 +26,20 @@ pub(crate) fn walk<O: Offers, H: Holdings>(
     requires tree { IsTree tree.now }
     requires closed { length closed.old ≡ length tree.now.limits.now }
     requires blocks { length (H.most held.old) ≡ O.blocks offers.old }
-    requires budgets { AreBudgets (budgets_of tree.now (O.blocks offers.old) (H.node_of held.old) (H.held_by held.old)) }
+    requires budgets { AreBudgets
+        (budgets_of tree.now (O.blocks offers.old) (H.node_of held.old) (H.held_by held.old)) }
     requires can { CanWalk (H.most held.old) (O.left offers.old) }
-    requires going { IsGoing (budgets_of tree.now (O.blocks offers.old) (H.node_of held.old) (H.held_by held.old))
-        (O.left offers.old) (so_far (H.chosen held.old) (O.done offers.old) (O.left offers.old) closed.old)
+    requires going { IsGoing
+        (budgets_of tree.now (O.blocks offers.old) (H.node_of held.old) (H.held_by held.old))
+        (O.left offers.old) (so_far (H.chosen held.old) (O.done offers.old) (O.left offers.old)
+        closed.old)
         (O.offered offers.old) (heap_items heap.old) }
     requires few { heap_len heap.old ≤ O.blocks offers.old }
     requires room { O.blocks offers.old ≤ heap_capacity heap.old }
-    ensures settled { IsSettled (budgets_of tree.now (O.blocks offers.old) (H.node_of held.old) (H.held_by held.old))
-        (O.left offers.old) (so_far (H.chosen held.new) (O.done offers.new) (O.left offers.new) closed.new) }
+    ensures settled { IsSettled
+        (budgets_of tree.now (O.blocks offers.old) (H.node_of held.old) (H.held_by held.old))
+        (O.left offers.old) (so_far (H.chosen held.new) (O.done offers.new) (O.left offers.new)
+        closed.new) }
     ensures blocks { O.blocks offers.new ≡ O.blocks offers.old }
     ensures closed { length closed.new ≡ length closed.old }
     ensures most { H.most held.new ≡ H.most held.old }

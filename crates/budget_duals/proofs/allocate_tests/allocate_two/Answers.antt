@@ -9,8 +9,11 @@ use Rattle.budget_duals.proofs.allocate_tests.allocate_two.Goals as goal
 
 pub allocate-requires-clause-ready : goal.allocate-requires-clause-ready
 allocate-requires-clause-ready c =
-    subst (λ (l : List Step). IsReady c.args.limits.now (3 ∷ 3 ∷ []) (0 ∷ 0 ∷ []) (two_inside c.args.inside.0 c.args.inside.1)
-    (two_held c.args.base c.args.inside.0 c.args.inside.1 c.args.bytes.0 c.args.bytes.1) (λ b. steps_of b l) c.args.start)
+    subst (λ (l : List Step). IsReady c.args.limits.now (3 ∷ 3 ∷ []) (0 ∷ 0 ∷ [])
+    (two_inside c.args.inside.0 c.args.inside.1)
+    (two_held c.args.base c.args.inside.0 c.args.inside.1 c.args.bytes.0 c.args.bytes.1)
+    (λ b. steps_of b l) c.args.start)
     (sym c.in-Ok.ensures.items)
-    (two_ready c.args.limits.now c.args.base c.args.inside.0 c.args.inside.1 c.args.bytes.0 c.args.bytes.1 c.args.steps.now
+    (two_ready c.args.limits.now c.args.base c.args.inside.0 c.args.inside.1 c.args.bytes.0
+    c.args.bytes.1 c.args.steps.now
     c.args.start c.requires.fits)

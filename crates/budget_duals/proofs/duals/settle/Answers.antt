@@ -1,5 +1,6 @@
 -- The walk ends settled, and the sums are the definitions'.
-use Rattle.std.proofs.Common.{ℕ, List, Option, ◌+◌, ◌-◌, ◌*◌, ◌<◌, ◌≤◌, ◌≡◌, ◌^◌, arith, sym, subst, ◌∙◌}
+use Rattle.std.proofs.Common.{ℕ, List, Option, ◌+◌, ◌-◌, ◌*◌, ◌<◌, ◌≤◌, ◌≡◌, ◌^◌, arith, sym, subst}
+use Rattle.std.proofs.Common.{◌∙◌}
 use Rattle.rd_hulls.specs.declared.step.Step.{Step}
 use Rattle.allocation_bound.specs.Budgets.{base, chain}
 use Rattle.allocation_bound.specs.Ledger.{rounded_up}

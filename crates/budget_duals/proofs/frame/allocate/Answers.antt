@@ -80,7 +80,8 @@ returns-in-Ok-clause-certified g c =
         subst (λ (n : ℕ). IsCertificate (frame_budgets limits n inside held) steps counts done left
             c.args.start a) blocks
             (subst (λ (h : ℕ → List Step). IsCertificate
-            (frame_budgets limits (length c.in-Ok.offers.places.items) inside held) h counts done left
+            (frame_budgets limits (length c.in-Ok.offers.places.items) inside held) h counts done
+            left
             c.args.start a) alike is),
       ),
     ))

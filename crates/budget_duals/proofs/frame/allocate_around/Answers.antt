@@ -1,5 +1,6 @@
 -- The tree has the budgets of the frame.
-use Rattle.std.proofs.Common.{ℕ, ◌≡◌, ◌+◌, ◌<◌, ◌≤◌, ◌^◌, List, [], ◌∷◌, ◌++◌, map, get_or, slice_index_or, Option, arith, sym, subst}
+use Rattle.std.proofs.Common.{ℕ, ◌≡◌, ◌+◌, ◌<◌, ◌≤◌, ◌^◌, List, [], ◌∷◌, ◌++◌, map, get_or}
+use Rattle.std.proofs.Common.{slice_index_or, Option, arith, sym, subst}
 use Rattle.cine_nums.specs.declared.budget.Budget.TheVariants.{Frame, Inner, C0, C1, C2}
 use Rattle.rd_hulls.specs.declared.step.Step.{Step}
 use Rattle.allocation_bound.specs.Settled.{Budgets, AreBudgets}
@@ -15,7 +16,8 @@ use Rattle.budget_duals.specs.declared.held.Held.{Held}
 use Rattle.budget_duals.specs.declared.limits.Limits.{Limits}
 use Rattle.budget_duals.specs.declared.members.Members.{Members}
 use Rattle.budget_duals.proofs.CertifiedLemmas.{can_take_refused, taken_gains, certified_frame}
-use Rattle.budget_duals.proofs.FrameLemmas.{low_each, within_each, frame_are_budgets, budgets_by, budgets_are, numbers_are}
+use Rattle.budget_duals.proofs.FrameLemmas.{low_each, within_each, frame_are_budgets, budgets_by}
+use Rattle.budget_duals.proofs.FrameLemmas.{budgets_are, numbers_are}
 use Rattle.budget_duals.proofs.frame.allocate_around.Goals as goal
 
 pub allocate_over-requires-clause-limits : goal.allocate_over-requires-clause-limits

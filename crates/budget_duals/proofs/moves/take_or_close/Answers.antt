@@ -3,7 +3,8 @@ use Rattle.std.proofs.Common.{◌<◌, sym, subst}
 use Rattle.allocation_bound.specs.Settled.{Budgets}
 use Rattle.budget_duals.specs.Tree.{budgets_of}
 use Rattle.budget_duals.specs.Walking.{so_far}
-use Rattle.budget_duals.proofs.MoveLemmas.{takes, closes, close_opens, ahead_taken, ahead_closed, broken_inside, broken_open}
+use Rattle.budget_duals.proofs.MoveLemmas.{takes, closes, close_opens, ahead_taken, ahead_closed}
+use Rattle.budget_duals.proofs.MoveLemmas.{broken_inside, broken_open}
 use Rattle.budget_duals.proofs.moves.take_or_close.Goals as goal
 
 pub bounds-closed-budget : goal.bounds-closed-budget

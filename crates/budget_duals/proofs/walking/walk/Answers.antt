@@ -7,7 +7,8 @@ use Rattle.allocation_bound.specs.Settled.{Budgets, Outcome, nearest}
 use Rattle.budget_duals.specs.Price.{CanTake}
 use Rattle.budget_duals.specs.Tree.{around_in, budgets_of, closed_by}
 use Rattle.budget_duals.specs.Walking.{so_far, Walks, IsNextStep}
-use Rattle.budget_duals.proofs.WalkLemmas.{same_budgets, top_entry, top_own, top_next, top_can, going_dropped, going_on}
+use Rattle.budget_duals.proofs.WalkLemmas.{same_budgets, top_entry, top_own, top_next, top_can}
+use Rattle.budget_duals.proofs.WalkLemmas.{going_dropped, going_on}
 use Rattle.budget_duals.proofs.walking.walk.Goals as goal
 
 pub visit-requires-clause-own : goal.visit-requires-clause-own

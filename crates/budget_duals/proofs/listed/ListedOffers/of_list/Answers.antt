@@ -1,5 +1,6 @@
 -- Nothing is taken, and each list has the steps of its block.
-use Rattle.std.proofs.Common.{ℕ, ◌<◌, ◌≡◌, List, Vec, Global, length, map, replicate, arith, ap, sym, subst, ◌∙◌, ◌^◌}
+use Rattle.std.proofs.Common.{ℕ, ◌<◌, ◌≡◌, List, Vec, Global, length, map, replicate, arith, ap}
+use Rattle.std.proofs.Common.{sym, subst, ◌∙◌, ◌^◌}
 use Rattle.std.proofs.lemmas.List.{length-map}
 use Rattle.std.specs.List.{AllByRecursion}
 use Rattle.rd_hulls.specs.declared.step.Step.{Step}
