@@ -16,6 +16,7 @@ use Rattle.band_geometry.specs.declared.places.BlockId.{BlockId}
 use Rattle.band_geometry.proofs.NumberLemmas.{listed_at_number}
 use Rattle.dz_quantiser.specs.Bands.{band_planes}
 use Rattle.dz_quantiser.specs.declared.steps.StepSizes.{StepSizes}
+use Rattle.distortion_sums.specs.Distortion.{distortion}
 use Rattle.ebcot_contexts.specs.Contexts.{Shape}
 use Rattle.mq_coder.specs.Mark.{kept_at}
 use Rattle.profile_reader.specs.Chosen.{Planes, block_coefs, block_shape}
@@ -54,6 +55,7 @@ pass-moves coefs s k pass a b same is = record {
     prefix = same ∙ is.mark.prefix;
   };
   few = is.few;
+  distortion_is = is.distortion_is;
 }
 
 -- the kept bytes of a block among those of all, before and after others are joined to them
@@ -78,6 +80,7 @@ stays coefs s band_planes row passes more bytes more' inside is = record {
   planes = is.planes;
   zero_planes = is.zero_planes;
   passes_are = is.passes_are;
+  start_is = is.start_is;
   each = λ k other lt.
       let pass = get_or passes (row.first + k) other in
       let same : get_or (passes ++ more) (row.first + k) other ≡ pass =
@@ -93,11 +96,13 @@ pub joins : (coefs : List (ℕ × Bool)) (s : Shape) (band_planes zero_planes : 
     (old new : CodedBlocks) (code : BlockCode) (buffer : List ℕ) →
     IsJoined code zero_planes buffer old new → IsBlockCode coefs s code.passes.items buffer →
     s.planes ≤ band_planes → zero_planes ≡ band_planes - s.planes →
+    code.start ≡ distortion coefs s 0 →
     IsCodedBlock coefs s band_planes (row_for old code zero_planes) new.passes.items new.bytes.items
-joins coefs s band_planes zero_planes old new code buffer is codes few zeros = record {
+joins coefs s band_planes zero_planes old new code buffer is codes few zeros start = record {
   planes = few;
   zero_planes = zeros;
   passes_are = codes.count;
+  start_is = start;
   each = λ k other lt.
       let ps = old.passes.items in
       let bs = old.bytes.items in
@@ -120,7 +125,7 @@ row-before : (code : BlockCode) (zero_planes : ℕ) (buffer : List ℕ) (old new
     (n : ℕ) → IsJoined code zero_planes buffer old new → n < length old.rows.items →
     row_at new n ≡ row_at old n
 row-before code zero_planes buffer old new n is lt =
-    let none : CodedBlock = record { zero_planes = 0; passes = 0; first = 0; at = 0 } in
+    let none : CodedBlock = record { zero_planes = 0; passes = 0; first = 0; at = 0; start = 0 } in
     ap (λ l. get_or l n none) is.rows
     ∙ get_or_append_left old.rows.items (row_for old code zero_planes ∷ []) none n lt
 
@@ -128,7 +133,7 @@ row-new : (code : BlockCode) (zero_planes : ℕ) (buffer : List ℕ) (old new : 
     IsJoined code zero_planes buffer old new →
     row_at new (length old.rows.items) ≡ row_for old code zero_planes
 row-new code zero_planes buffer old new is =
-    let none : CodedBlock = record { zero_planes = 0; passes = 0; first = 0; at = 0 } in
+    let none : CodedBlock = record { zero_planes = 0; passes = 0; first = 0; at = 0; start = 0 } in
     ap (λ l. get_or l (length old.rows.items) none) is.rows
     ∙ get_or-append_seam old.rows.items (row_for old code zero_planes) [] none
 
@@ -149,7 +154,7 @@ before : (g : Geometry) (steps : StepSizes) (planes : Planes) (b : BlockId) (cod
 before g steps planes b code zero_planes buffer old new n is are is_block lt =
     let k = number_of g b in
     let within : k < length old.rows.items = omega (arith, are.count) in
-    let none : CodedBlock = record { zero_planes = 0; passes = 0; first = 0; at = 0 } in
+    let none : CodedBlock = record { zero_planes = 0; passes = 0; first = 0; at = 0; start = 0 } in
     let inside : IsRowIn old.passes.items old.bytes.items (row_at old k) =
     All-get_or (IsRowIn old.passes.items old.bytes.items) old.rows.items k none within old.rows_in
     in

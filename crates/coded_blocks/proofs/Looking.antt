@@ -7,6 +7,7 @@ use Rattle.band_geometry.specs.declared.geometry.Geometry.{Geometry}
 use Rattle.band_geometry.specs.declared.places.BlockId.{BlockId}
 use Rattle.dz_quantiser.specs.Bands.{band_planes}
 use Rattle.dz_quantiser.specs.declared.steps.StepSizes.{StepSizes}
+use Rattle.distortion_sums.specs.Distortion.{distortion}
 use Rattle.ebcot_contexts.specs.Contexts.{Shape}
 use Rattle.ebcot_contexts.specs.Meaning.{symbols_of}
 use Rattle.mq_coder.specs.Code.{code}
@@ -36,6 +37,7 @@ pub record IsLast (coefs : List (ℕ × Bool)) (s : Shape) (k : ℕ) (pass : Cod
     (buffer : List ℕ) : Type 0 where
   pub mark : IsMarkOf pass.mark buffer (symbols_of coefs s k)
   pub few : pass.mark.count ≤ 68023
+  pub distortion_is : pass.distortion ≡ distortion coefs s k
 
 last-of : (coefs : List (ℕ × Bool)) (s : Shape) (k : ℕ) (pass : CodedPass) (buffer : List ℕ) →
     1 ≤ k → IsPass coefs s (k - 1) pass buffer → IsLast coefs s k pass buffer
@@ -44,6 +46,7 @@ last-of coefs s k pass buffer some is =
     record {
       mark = subst (λ j. IsMarkOf pass.mark buffer (symbols_of coefs s j)) e is.mark;
       few = is.few;
+      distortion_is = subst (λ j. pass.distortion ≡ distortion coefs s j) e is.distortion_is;
     }
 
 pub last_at : (coefs : List (ℕ × Bool)) (s : Shape) (planes : ℕ) (row : CodedBlock)

@@ -6,6 +6,7 @@ use Rattle.band_geometry.specs.Counts.{number_of}
 use Rattle.band_geometry.specs.Numbering.{all_blocks}
 use Rattle.band_geometry.specs.declared.geometry.Geometry.{Geometry}
 use Rattle.band_geometry.specs.declared.places.BlockId.{BlockId}
+use Rattle.distortion_sums.specs.Distortion.{distortion}
 use Rattle.dz_quantiser.specs.Bands.{band_planes}
 use Rattle.dz_quantiser.specs.declared.steps.StepSizes.{StepSizes}
 use Rattle.ebcot_contexts.specs.Contexts.{Shape}
@@ -25,7 +26,7 @@ count_of s = length s.rows.items
 abbrev pub row_at : CodedBlocks → ℕ → CodedBlock
 row_at s n =
     get_or s.rows.items n
-    (record { zero_planes = 0; passes = 0; first = 0; at = 0 })
+    (record { zero_planes = 0; passes = 0; first = 0; at = 0; start = 0 })
 
 -- how many passes the block with this number has
 abbrev pub passes_at : CodedBlocks → ℕ → ℕ
@@ -39,6 +40,7 @@ pub record IsCodedBlock (coefs : List (ℕ × Bool)) (s : Shape) (band_planes : 
   pub planes : s.planes ≤ band_planes
   pub zero_planes : row.zero_planes ≡ band_planes - s.planes
   pub passes_are : row.passes ≡ passes_of s.planes
+  pub start_is : row.start ≡ distortion coefs s 0
   pub each : (k : ℕ) (other : CodedPass) → k < row.passes →
       IsPass coefs s k (get_or passes (row.first + k) other) (drop row.at bytes)
 
@@ -61,6 +63,7 @@ row_for s code zero_planes = record {
   passes = length code.passes.items;
   first = length s.passes.items;
   at = length s.bytes.items;
+  start = code.start;
 }
 
 -- A block was joined to others: its row, its passes, and those bytes of the buffer that the code of

@@ -47,6 +47,7 @@ impl CodedBlocks {
             passes: code.passes.len() as u8,
             first: self.passes.len(),
             at: self.bytes.len(),
+            start: code.start,
         };
         let kept = kept_bytes(code.passes.as_slice());
         self.passes.extend_from_slice(code.passes.as_slice())?;

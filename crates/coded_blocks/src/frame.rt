@@ -5,6 +5,7 @@ ghost use Rattle.band_geometry.specs.Counts.{number_of};
 ghost use Rattle.band_geometry.specs.Numbering.{all_blocks};
 ghost use Rattle.band_geometry.specs.declared.places.BlockId.{BlockId};
 ghost use Rattle.codeblock_views.specs.Magnitudes.{AreSmall};
+ghost use Rattle.distortion_sums.specs.Distortion.{distortion};
 ghost use Rattle.dz_quantiser.specs.Bands.{AreUsable, band_planes};
 ghost use Rattle.profile_reader.specs.Chosen.{Planes, block_coefs, block_shape};
 ghost use Rattle.coded_blocks.specs.Coded.{AreCoded, AreCodedBelow, count_of};
@@ -61,6 +62,9 @@ fn code_block(geometry: &Geometry, plane: &CoefPlane, id: BlockId, buffer: &mut 
     ensures codes { (planes : Planes) → planes id.component ≡ plane.now.cells.items →
         IsBlockCode (block_coefs geometry.now planes id) (block_shape geometry.now planes id)
         result.passes.items buffer.new }
+    ensures start { (planes : Planes) → planes id.component ≡ plane.now.cells.items →
+        result.start ≡ distortion (block_coefs geometry.now planes id)
+        (block_shape geometry.now planes id) 0 }
 {
     assembled();
     let block = BlockView::of(plane, geometry.block(id));

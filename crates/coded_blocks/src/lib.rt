@@ -6,8 +6,15 @@
 //! header, its bytes, and the distortion that these passes leave. `specs/Coded` says what the
 //! object holds: `AreCoded` for the coefficients of a frame.
 //!
-//! Blocks are named by their number in the geometry, and passes are counted from 0. The only
-//! refusal is out of memory.
+//! Blocks are named by their number in the geometry, from 0 on. The only refusal is out of memory.
+//!
+//! ```
+//! let geometry = Geometry::new(Profile::TwoK, 5, 2048, 1080);
+//! let steps = StepSizes::built_in(Profile::TwoK);
+//! let frame = coefficients(alloc, &geometry, &steps, x, y, z)?;
+//! let blocks = CodedBlocks::code(alloc, &geometry, &steps, &frame.c0, &frame.c1, &frame.c2)?;
+//! blocks.push_code(4711, blocks.passes(4711), &mut bytes)?;
+//! ```
 #![tactic(auto)]
 
 mod blocks;

@@ -4,6 +4,7 @@ ghost use Rattle.band_geometry.specs.Bands.{IsBlock};
 ghost use Rattle.band_geometry.specs.Counts.{number_of};
 ghost use Rattle.band_geometry.specs.declared.geometry.Geometry.{Geometry};
 ghost use Rattle.band_geometry.specs.declared.places.BlockId.{BlockId};
+ghost use Rattle.distortion_sums.specs.Distortion.{distortion};
 ghost use Rattle.dz_quantiser.specs.Bands.{band_planes};
 ghost use Rattle.dz_quantiser.specs.declared.steps.StepSizes.{StepSizes};
 ghost use Rattle.packet_headers.specs.Written.{CanWriteEntry};
@@ -85,6 +86,22 @@ impl CodedBlocks {
         out.extend_from_slice(&self.bytes.as_slice()[at..at + end.kept as usize])?;
         out.extend_from_slice(end.tail.as_slice())?;
         Ok(())
+    }
+
+    /// The distortion that the first `k` passes of block `n` leave, in units of half a step
+    /// squared.
+    pub fn distortion(&self, n: u32, k: u8) -> u64
+        requires block { n < count_of self.now }
+        requires passes { k ≤ passes_at self.now n }
+        ensures { (g : Geometry) (steps : StepSizes) (planes : Planes) (b : BlockId) →
+            AreCoded g steps planes self.now → IsBlock g b → number_of g b ≡ n →
+            result ≡ distortion (block_coefs g planes b) (block_shape g planes b) k }
+    {
+        if k == 0 {
+            self.row(n).start
+        } else {
+            self.pass(n, k - 1).distortion
+        }
     }
 
     /// What is kept of block `n` beside its passes and its bytes.

@@ -12,4 +12,6 @@ pub struct CodedBlock {
     pub first: usize,
     /// Where its first byte stands among the bytes of all blocks.
     pub at: usize,
+    /// Its distortion while nothing of it is known, in units of half a step squared.
+    pub start: u64,
 }

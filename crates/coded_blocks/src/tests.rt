@@ -60,6 +60,15 @@ fn code(alloc: Global, blocks: &CodedBlocks, n: u32, k: u8) -> Result<Vec<u8>, A
     Ok(out)
 }
 
+/// The distortion that the first `k` passes of a block leave, and 1,000,000 where it has fewer.
+fn distortion(blocks: &CodedBlocks, n: u32, k: u8) -> u64 {
+    if (n as usize) < blocks.count() && k <= blocks.passes(n) {
+        blocks.distortion(n, k)
+    } else {
+        1_000_000
+    }
+}
+
 fn included(zero_planes: u8, passes: u8, len: u32) -> Entry {
     Entry {
         included: true,
@@ -88,6 +97,21 @@ fn a_frame_of_one_sample(rt: HostRuntime) -> Result<(), Fail> {
             [1, byte].as_slice()
         );
     }
+    let distortions = [
+        (0, 16641),
+        (1, 3969),
+        (3, 961),
+        (6, 225),
+        (9, 49),
+        (12, 9),
+        (15, 1),
+        (18, 0),
+        (19, 0),
+    ];
+    for (k, left) in distortions {
+        assert_eq!(rt; distortion(&blocks, 0, k), left);
+    }
+    assert_eq!(rt; distortion(&blocks, 1, 0), 0);
     assert_eq!(rt; entry(&blocks, 0, 0), Entry::default());
     assert_eq!(rt; code(rt.alloc(), &blocks, 0, 0)?.as_slice(), [1].as_slice());
     Ok(())

@@ -13,7 +13,7 @@ use Rattle.band_geometry.specs.declared.geometry.Geometry.{Geometry}
 use Rattle.dz_quantiser.specs.Bands.{AreUsable, IsUsableAt, band_planes}
 use Rattle.dz_quantiser.specs.Coefficient.{Coefficient, zero_coefficient}
 use Rattle.dz_quantiser.specs.declared.steps.StepSizes.{StepSizes}
-use Rattle.coded_blocks.specs.Frame.{AreBelow}
+use Rattle.frame_coefficients.specs.Planes.{AreBelow}
 use Rattle.coded_blocks.proofs.tests.plane_with.Goals as goal
 
 usable : (g : Geometry) (steps : StepSizes) (r : ℕ) (o : Orient) → AreUsable g.levels steps →
@@ -53,8 +53,7 @@ cells_below cells count place most q are some small =
 
 pub returns : goal.returns
 returns c = record {
-  width = c.in_ok-plane.ensures.width;
-  height = c.in_ok-plane.ensures.height;
+  size = record { width = c.in_ok-plane.ensures.width; height = c.in_ok-plane.ensures.height };
   small = cells_below _ _ _ (2 ^ 20) _ c.in_ok-plane.ensures.cells (omega arith)
       (omega (arith, c.new-2.ensures.magnitude, c.requires.low));
   below = below c.args.geometry.now c.args.steps.now _ c.requires.usable

@@ -43,6 +43,7 @@ returns-clause-coded c = λ planes cells before.
     (block_shape geometry planes c.args.id)
     (band_planes c.args.steps.now c.args.id.res c.args.id.orient) zero_planes c.args.self.now
     c.join.new.self code c.code_block-code.new.buffer joined
-    (c.code_block-code.ensures.codes planes cells) few zeros in
+    (c.code_block-code.ensures.codes planes cells) few zeros
+    (c.code_block-code.ensures.start planes cells) in
     next geometry c.args.steps.now planes c.args.id code zero_planes c.code_block-code.new.buffer
     c.args.self.now c.join.new.self c.requires.exists joined coded before
