@@ -2,22 +2,26 @@
 use Rattle.std.proofs.Common.{ℕ, ◌≡◌, ◌+◌, ◌*◌, ◌<◌, ◌≤◌, ◌^◌, ◌==◌, if◌then◌else◌, Bool, true}
 use Rattle.std.proofs.Common.{false, List, [], ◌∷◌, ◌++◌, length, get_or, Option, Some, None, arith}
 use Rattle.std.proofs.Common.{refl, sym, ap, subst, ◌∙◌}
+use Rattle.std.proofs.Common.{inl, inr}
 use Rattle.std.specs.List.{AllByRecursion}
 use Rattle.cine_nums.specs.declared.budget.Budget.{Budget}
 use Rattle.cine_nums.specs.declared.budget.Budget.TheVariants.{Frame, Inner, C0, C1, C2}
 use Rattle.rd_hulls.specs.declared.step.Step.{Step}
+use Rattle.allocation_bound.specs.Budgets.{chain}
 use Rattle.allocation_bound.specs.Laws.{HasCertificate}
 use Rattle.allocation_bound.specs.Ledger.{IsGap}
 use Rattle.allocation_bound.specs.Refused.{grow, price, price_at, refused_price, ledger}
 use Rattle.allocation_bound.specs.Settled.{Budgets, Outcome, IsSettled, multiplier_of, block_rate}
 use Rattle.allocation_bound.specs.Steps.{best, cost, gains, lens, scale}
 use Rattle.allocation_bound.specs.Sums.{upto, total}
-use Rattle.allocation_bound.proofs.Lists.{all_after, at_head}
+use Rattle.allocation_bound.proofs.Levels.{first_is, multiplier_open}
+use Rattle.allocation_bound.proofs.Lists.{cases_option, all_after, at_head}
 use Rattle.allocation_bound.proofs.Splits.{best_is_least, excess_over_prefixes}
 use Rattle.allocation_bound.proofs.SumLemmas.{upto_le}
 use Rattle.budget_duals.specs.Allocated.{IsAllocated}
 use Rattle.budget_duals.specs.Certified.{IsCertificate}
-use Rattle.budget_duals.specs.Frame.{frame_budgets, refused_one, refused_by, refused_steps}
+use Rattle.budget_duals.specs.Frame.{AreMembers, frame_budgets, refused_one, refused_by}
+use Rattle.budget_duals.specs.Frame.{refused_steps}
 use Rattle.budget_duals.specs.Held.{place_of}
 use Rattle.budget_duals.specs.Listing.{refused_listed}
 use Rattle.budget_duals.specs.Numbered.{bytes_in}
@@ -30,6 +34,7 @@ use Rattle.budget_duals.specs.declared.held.Held.{Held}
 use Rattle.budget_duals.specs.declared.limits.Limits.{Limits}
 use Rattle.budget_duals.specs.declared.members.Members.{Members}
 use Rattle.budget_duals.proofs.DualLemmas.{lens_after, left_bytes}
+use Rattle.budget_duals.proofs.FrameLemmas.{no_inner_in}
 use Rattle.budget_duals.proofs.GainLemmas.{gains_append}
 
 -- a step that closed a budget can still be taken
@@ -188,7 +193,30 @@ certified_frame limits blocks inside held steps counts done left closed numbers 
           (lens_after (done b) (left b)));
       distortion = distortion;
       refused = refused;
+      each = certificate.refused;
       below_prices = omega arith;
       none = λ zeros. certificate.none
           (λ j lt. sym (same j lt ∙ allocated.multipliers j lt) ∙ zeros j lt) c.gap is_gap;
     }
+
+-- without a 2K portion its multiplier is 0
+pub no_inner_multiplier : (limits : Limits) (blocks : ℕ) (inside : ℕ → Members)
+    (held : List ℕ → Held)
+    (steps : ℕ → List Step) (counts : List ℕ) (done left : ℕ → List Step) (start : ℕ)
+    (c : Certificate)
+    → ((b : ℕ) → b < blocks → AreMembers limits.inner (inside b)) → limits.inner ≡ None
+    → IsCertificate (frame_budgets limits blocks inside held) steps counts done left start c
+    → number_at c.multipliers 1 ≡ 0
+no_inner_multiplier limits blocks inside held steps counts done left start c are none is =
+    let w : Budgets = frame_budgets limits blocks inside held in
+    let closed : ℕ → Option Step = closed_by is.closed in
+    let open_now : multiplier_of w (so_far counts done left is.closed) 1
+    ≡ 0 = elim (cases_option (closed 1)) [
+      | inl n ↦ multiplier_open w.around closed 1 n
+      | inr (s, e) ↦ absurd
+          (no_inner_in limits.inner (inside s.block) (are s.block (is.settled.kept.inside 1 s e))
+          none
+          (first_is closed (chain w.around (w.node s.block)) (record { budget = 1; step = s })
+          (is.settled.kept.closing 1 s e)).1)
+    ] in
+    is.multipliers 1 (omega arith) ∙ open_now

@@ -1,21 +1,24 @@
 -- The budgets of a frame are nested, and the law of what they hold is that of its `Price`.
-use Rattle.std.proofs.Common.{ℕ, zero, suc, ◌≡◌, ◌+◌, ◌<◌, ◌≤◌, ◌^◌, ◌==◌, inl, inr, IsTrue, Bool}
+use Rattle.std.proofs.Common.{ℕ, zero, suc, ◌≡◌, ◌+◌, ◌<◌, ◌≤◌, ◌^◌, ◌==◌, ◌↔◌, inl, inr, IsTrue}
+use Rattle.std.proofs.Common.{Bool}
 use Rattle.std.proofs.Common.{true, false, if◌then◌else◌, List, [], ◌∷◌, length, set, get_or}
-use Rattle.std.proofs.Common.{slice_index_or, Option, Some, None, arith, refl, ap, ◌∙◌}
+use Rattle.std.proofs.Common.{slice_index_or, Option, Some, None, arith, refl, sym, ap, subst, ◌∙◌}
 use Rattle.std.proofs.lemmas.Bool.Decides.{nat_tests}
 use Rattle.cine_nums.specs.declared.budget.Budget.{Budget}
 use Rattle.cine_nums.specs.declared.budget.Budget.TheVariants.{Frame, Inner, C0, C1, C2}
+use Rattle.std.specs.List.{AllByRecursion}
 use Rattle.allocation_bound.specs.Budgets.{IsNested, IsOn, chain}
 use Rattle.allocation_bound.specs.Settled.{Budgets, AreBudgets}
 use Rattle.budget_duals.specs.Frame.{around_each, limit_each, or_none, frame_budgets, AreLow}
 use Rattle.budget_duals.specs.Frame.{AreMembers}
 use Rattle.budget_duals.specs.Held.{held_in, limit_in, place_of, IsWithin}
-use Rattle.budget_duals.specs.Members.{is_in}
+use Rattle.budget_duals.specs.Members.{is_in, is_of}
 use Rattle.budget_duals.specs.Numbered.{node_by, node_in, bytes_in}
 use Rattle.budget_duals.specs.Price.{HasLaw}
 use Rattle.budget_duals.specs.declared.held.Held.{Held}
 use Rattle.budget_duals.specs.declared.limits.Limits.{Limits}
 use Rattle.budget_duals.specs.declared.members.Members.{Members}
+use Rattle.allocation_bound.proofs.Chains.{on_below}
 use Rattle.budget_duals.proofs.Outermost.{two_ways}
 
 pub nested_each : (inner : Option ℕ) → IsNested (λ j. get_or (around_each inner) j [])
@@ -245,3 +248,101 @@ numbers_are limits n e =
     ap (λ k. limits.frame ∷ k ∷ slice_index_or limits.component 0 0
     ∷ slice_index_or limits.component 1 0
     ∷ slice_index_or limits.component 2 0 ∷ []) e
+
+-- the budgets around one are the frame and the 2K portion
+low_around : (limit : Option ℕ) (j : ℕ) →
+    AllByRecursion (λ i. i < 2) (get_or (around_each limit) j [])
+low_around None zero = tt
+low_around None (suc zero) = (omega arith, tt)
+low_around None (suc (suc zero)) = (omega arith, tt)
+low_around None (suc (suc (suc zero))) = (omega arith, tt)
+low_around None (suc (suc (suc (suc zero)))) = (omega arith, tt)
+low_around None (suc (suc (suc (suc (suc j))))) = tt
+low_around (Some n) zero = tt
+low_around (Some n) (suc zero) = (omega arith, tt)
+low_around (Some n) (suc (suc zero)) = (omega arith, (omega arith, tt))
+low_around (Some n) (suc (suc (suc zero))) = (omega arith, (omega arith, tt))
+low_around (Some n) (suc (suc (suc (suc zero)))) = (omega arith, (omega arith, tt))
+low_around (Some n) (suc (suc (suc (suc (suc j))))) = tt
+
+-- a component on a block's chain is the block's
+component_on : (limit component : Option ℕ) (inner : Bool) (k : ℕ) →
+    IsOnChain limit component inner (2 + k)
+    → component ≡ Some k
+component_on limit None true k (inl e) = absurd (let x : 1 ≡ 2 + k = e in omega arith)
+component_on limit None true k (inr on) =
+    absurd (let x : 2 + k < 2 = on_below 2 (2 + k) _ (low_around limit 1) on in omega arith)
+component_on limit None false k (inl e) = absurd (let x : 0 ≡ 2 + k = e in omega arith)
+component_on limit None false k (inr on) =
+    absurd (let x : 2 + k < 2 = on_below 2 (2 + k) _ (low_around limit 0) on in omega arith)
+component_on limit (Some c) inner k (inl e) =
+    let x : 2 + c ≡ 2 + k = e in
+    let same : c ≡ k = omega arith in
+    ap (λ n. Some n) same
+component_on limit (Some c) inner k (inr on) =
+    absurd (let x : 2 + k < 2 = on_below 2 (2 + k) _ (low_around limit (2 + c)) on in omega arith)
+
+off_one : (a j : ℕ) → ¬ (a ≡ j) → IsOn j (a ∷ []) → ⊥
+off_one a j ne (inl e) = ne e
+off_one a j ne (inr off) = off
+
+off_two : (a b j : ℕ) → ¬ (a ≡ j) → ¬ (b ≡ j) → IsOn j (a ∷ b ∷ []) → ⊥
+off_two a b j first second (inl e) = first e
+off_two a b j first second (inr on) = off_one b j second on
+
+-- in a 2K frame the 2K portion is on no block's chain
+off_inner : (component : Option ℕ) → ((c : ℕ) → component ≡ Some c → c ≤ 2) →
+    IsOnChain None component false 1 → ⊥
+off_inner None small on = off_one 0 1 (λ e. let x : 0 ≡ 1 = e in absurd (omega arith)) on
+off_inner (Some zero) small on =
+    off_two 2 0 1 (λ e. let x : 2 ≡ 1 = e in absurd (omega arith))
+    (λ e. let x : 0 ≡ 1 = e in absurd (omega arith)) on
+off_inner (Some (suc zero)) small on =
+    off_two 3 0 1 (λ e. let x : 3 ≡ 1 = e in absurd (omega arith))
+    (λ e. let x : 0 ≡ 1 = e in absurd (omega arith)) on
+off_inner (Some (suc (suc zero))) small on =
+    off_two 4 0 1 (λ e. let x : 4 ≡ 1 = e in absurd (omega arith))
+    (λ e. let x : 0 ≡ 1 = e in absurd (omega arith)) on
+off_inner (Some (suc (suc (suc c)))) small on =
+    let le : suc (suc (suc c)) ≤ 2 = small (suc (suc (suc c))) refl in absurd (omega arith)
+
+no_inner_on : (limit component : Option ℕ) (inner : Bool) → limit ≡ None →
+    ((c : ℕ) → component ≡ Some c → c ≤ 2)
+    → (limit ≡ None → inner ≡ false) → IsOnChain limit component inner 1 → ⊥
+no_inner_on (Some n) component inner e small none on = let bad : ⊥ = cc in bad
+no_inner_on None component true e small none on = not_none (none refl)
+no_inner_on None component false e small none on = off_inner component small on
+
+inner_named : (limit component : Option ℕ) (inner : Bool) → ((c : ℕ) → component ≡ Some c → c ≤ 2)
+    → (limit ≡ None → inner ≡ false) →
+    ((n c : ℕ) → limit ≡ Some n → component ≡ Some c → inner ≡ true)
+    → IsOnChain limit component inner 1 → IsTrue inner
+inner_named limit component true small none nests on = refl
+inner_named None component false small none nests on = absurd (off_inner component small on)
+inner_named (Some n) None false small none nests on =
+    absurd (off_one 0 1 (λ e. let x : 0 ≡ 1 = e in absurd (omega arith)) on)
+inner_named (Some n) (Some c) false small none nests on = nests n c refl refl
+
+own_named : (component : Option ℕ) (k : ℕ) → component ≡ Some k → IsTrue (k == k) →
+    IsTrue (is_of component k)
+own_named component k e same = subst (λ o. IsTrue (is_of o k)) (sym e) same
+
+named : (limit : Option ℕ) (m : Members) (b : Budget) → AreMembers limit m
+    → IsOnChain limit m.component m.inner (place_of b) → IsTrue (is_in m b)
+named limit m Frame are on = refl
+named limit m Inner are on = inner_named limit m.component m.inner are.component are.none are.nested
+    on
+named limit m C0 are on = own_named m.component 0 (component_on limit m.component m.inner 0 on) refl
+named limit m C1 are on = own_named m.component 1 (component_on limit m.component m.inner 1 on) refl
+named limit m C2 are on = own_named m.component 2 (component_on limit m.component m.inner 2 on) refl
+
+-- what stands on a block's chain is what the block is in
+pub named_on : (limit : Option ℕ) (m : Members) (b : Budget) → AreMembers limit m
+    → IsTrue (is_in m b) ↔ IsOn (place_of b)
+    (chain (λ i. get_or (around_each limit) i []) (node_in m))
+named_on limit m b are =
+    (on_chain limit m.component m.inner b are.component are.none, named limit m b are)
+
+pub no_inner_in : (limit : Option ℕ) (m : Members) → AreMembers limit m → limit ≡ None
+    → IsOn 1 (chain (λ i. get_or (around_each limit) i []) (node_in m)) → ⊥
+no_inner_in limit m are e on = no_inner_on limit m.component m.inner e are.component are.none on

@@ -1,13 +1,14 @@
 -- What an allocation beside a frame's budgets asks, and what it promises.
-use Rattle.std.specs.Prelude.{ℕ, ◌≡◌, ◌+◌, ◌<◌, ◌≤◌, ◌^◌, List, ◌++◌, length, get_or, Option, None}
+use Rattle.std.specs.Prelude.{ℕ, ◌≡◌, ◌+◌, ◌<◌, ◌≤◌, ◌^◌, List, ◌++◌, length, get_or, Option, Some}
+use Rattle.std.specs.Prelude.{None}
 use Rattle.rd_hulls.specs.declared.step.Step.{Step}
 use Rattle.allocation_bound.specs.Ledger.{IsGap, FitsBeside}
-use Rattle.allocation_bound.specs.Refused.{ledger}
+use Rattle.allocation_bound.specs.Refused.{ledger, IsRefused}
 use Rattle.allocation_bound.specs.Settled.{Budgets, IsSettled, multiplier_of, block_rate}
 use Rattle.allocation_bound.specs.Steps.{cost, gains, lens}
 use Rattle.allocation_bound.specs.Sums.{upto, total}
 use Rattle.budget_duals.specs.Frame.{AreLow, AreMembers, refused_steps}
-use Rattle.budget_duals.specs.Tree.{number_at}
+use Rattle.budget_duals.specs.Tree.{closed_by, number_at}
 use Rattle.budget_duals.specs.Walking.{so_far, CanWalk}
 use Rattle.budget_duals.specs.declared.certificate.Certificate.{Certificate}
 use Rattle.budget_duals.specs.declared.certificate.RefusedStep.{RefusedStep}
@@ -56,7 +57,10 @@ pub record IsCertificate (w : Budgets) (steps : ℕ → List Step) (counts : Lis
       ≤ cost (block_rate w (so_far counts done left closed) b) taken rest + lens (steps b)
   -- the distortion is that of no passes, less the gains of the steps that were taken
   pub distortion : c.distortion + upto w.blocks (λ b. gains (done b)) ≡ start
-  -- the refused steps, whose prices bound the gap, which is 0 where no budget has a multiplier
+  -- the refused steps, and what stands of each closed budget's step
   pub refused : c.refused.items ≡ refused_steps w (so_far counts done left closed)
+  pub each : (j : ℕ) (s : Step) → closed_by closed j ≡ Some s
+      → IsRefused w (so_far counts done left closed) j s
+  -- The gap is at most their prices together and 1, and 0 where no budget has a multiplier.
   pub below_prices : c.gap ≤ total (λ (r : RefusedStep). r.price) c.refused.items + 1
   pub none : ((j : ℕ) → j < w.number → number_at c.multipliers j ≡ 0) → c.gap ≡ 0

@@ -1,20 +1,25 @@
 // The allocation beside the budgets of a frame.
 ghost use Rattle.std.specs.Prelude.{ℕ, ◌≡◌, ◌↔◌, ◌+◌, ◌<◌, ◌≤◌, ◌^◌, [], List, Err, Some};
-ghost use Rattle.std.specs.Prelude.{length, map};
+ghost use Rattle.std.specs.Prelude.{length, map, get_or, IsTrue, Option, None};
 ghost use Rattle.std.specs.Prelude.{IfOk, OnOk, OnErr};
 ghost use Rattle.std.specs.List.{AllByRecursion};
 ghost use Rattle.cine_nums.specs.declared.budget.Budget.{Budget};
 ghost use Rattle.rd_hulls.specs.declared.step.Step.{Step};
+ghost use Rattle.allocation_bound.specs.Budgets.{IsOn, chain};
 ghost use Rattle.allocation_bound.specs.Steps.{gains};
 ghost use Rattle.allocation_bound.specs.Sums.{upto};
 ghost use Rattle.budget_duals.specs.Certified.{IsReady, IsCertificate};
-ghost use Rattle.budget_duals.specs.Frame.{around_each, frame_budgets, or_none, IsTooSmall};
-ghost use Rattle.budget_duals.specs.Held.{IsWithin};
+ghost use Rattle.budget_duals.specs.Frame.{around_each, frame_budgets, or_none, AreMembers};
+ghost use Rattle.budget_duals.specs.Frame.{IsTooSmall};
+ghost use Rattle.budget_duals.specs.Held.{place_of, IsWithin};
 ghost use Rattle.budget_duals.specs.Listed.{steps_of};
 ghost use Rattle.budget_duals.specs.Listing.{refused_all};
+ghost use Rattle.budget_duals.specs.Members.{is_in};
+ghost use Rattle.budget_duals.specs.Numbered.{node_in};
 ghost use Rattle.budget_duals.specs.Price.{CanTake};
 ghost use Rattle.budget_duals.specs.Tree.{closed_by, number_at};
 ghost use Rattle.budget_duals.specs.declared.certificate.AllocateRefusal.{AllocateRefusal};
+ghost use Rattle.budget_duals.specs.declared.members.Members.{Members};
 
 use crate::refused::{gained_sum, refused_list};
 use crate::{
@@ -166,6 +171,7 @@ pub fn allocate_offers<O: Offers, P: Price>(
         (P.held_for price.old))
         (O.left offers.old) (P.counts price.new) (O.done offers.new) (O.left offers.new) start c) }
     ensures within { OnOk result (IsWithin limits.now (P.held_for price.old (P.counts price.new))) }
+    ensures no_inner { limits.now.inner ≡ None → IfOk result (λ c. number_at c.multipliers 1 ≡ 0) }
     ensures keeps { P.keeps price.old price.new }
     ensures stays { O.stays offers.old offers.new }
     ensures unchanged { OnErr result (price.new ≡ price.old) }
@@ -203,6 +209,7 @@ pub fn allocate<P: Price>(
         (P.held_for price.old))
         (λ b. steps_of b steps.items) (P.counts price.new) done left start c)) }
     ensures within { OnOk result (IsWithin limits.now (P.held_for price.old (P.counts price.new))) }
+    ensures no_inner { limits.now.inner ≡ None → IfOk result (λ c. number_at c.multipliers 1 ≡ 0) }
     ensures keeps { P.keeps price.old price.new }
     ensures unchanged { OnErr result (price.new ≡ price.old) }
 {
@@ -216,3 +223,11 @@ pub fn allocate<P: Price>(
         Err(_) => Err(AllocateRefusal::Memory),
     }
 }
+
+/// A block is in the budgets that stand on the chain of its innermost one. A call does nothing, and
+/// gives the caller its clause.
+pub fn frame_members()
+    ensures { (limit : Option ℕ) (members : Members) (budget : Budget) → AreMembers limit members →
+        (IsTrue (is_in members budget)
+        ↔ IsOn (place_of budget) (chain (λ j. get_or (around_each limit) j []) (node_in members))) }
+{}

@@ -9,8 +9,8 @@
 //! the steps of its hull one after the other.
 //!
 //! `allocate` chooses among whole lists of steps, and `allocate_offers`, of which it is made, among
-//! what blocks offer: each reports a `Certificate` with a multiplier for each budget, the gap and the
-//! refused steps. `allocate_over` does the same beside any tree of nested budgets.
+//! what blocks offer: each reports a `Certificate` with a multiplier for each budget, the gap and
+//! the refused steps. `allocate_over` does the same beside any tree of nested budgets.
 #![tactic(auto)]
 
 #[cfg(test)]
@@ -43,7 +43,7 @@ mod walking;
 
 pub use certificate::{AllocateRefusal, Certificate, RefusedStep};
 pub use duals::{Duals, allocate_over};
-pub use frame::{allocate, allocate_offers};
+pub use frame::{allocate, allocate_offers, frame_members};
 pub use held::Held;
 pub use holdings::Holdings;
 pub use limits::Limits;
