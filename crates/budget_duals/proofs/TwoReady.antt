@@ -1,10 +1,9 @@
 -- The test of what an allocation over two blocks asks is right.
 use Rattle.std.proofs.Common.{ℕ, zero, suc, ◌≡◌, ◌+◌, ◌*◌, ◌<◌, ◌≤◌, ◌^◌, ◌==◌, nat_lt, Bool, true}
-use Rattle.std.proofs.Common.{false, List, [], ◌∷◌, length, get_or, slice_index_or, Option, Some}
-use Rattle.std.proofs.Common.{None, arith, refl, sym, ap, subst, ◌∙◌}
+use Rattle.std.proofs.Common.{false, List, [], ◌∷◌, slice_index_or, Option, Some}
+use Rattle.std.proofs.Common.{None, arith, refl}
 use Rattle.std.proofs.lemmas.Bool.Decides.{nat_tests}
 use Rattle.std.specs.List.{AllByRecursion}
-use Rattle.cine_nums.specs.declared.budget.Budget.{Budget}
 use Rattle.cine_nums.specs.declared.budget.Budget.TheVariants.{Frame, Inner, C0, C1, C2}
 use Rattle.rd_hulls.specs.declared.step.Step.{Step}
 use Rattle.rd_hulls.specs.Steps.{FallFrom, IsFalling}
@@ -12,13 +11,11 @@ use Rattle.allocation_bound.specs.Laws.{FollowOn}
 use Rattle.allocation_bound.specs.Steps.{gains, lens}
 use Rattle.budget_duals.specs.Certified.{IsReady}
 use Rattle.budget_duals.specs.Frame.{AreLow, AreMembers}
-use Rattle.budget_duals.specs.Held.{limit_in}
 use Rattle.budget_duals.specs.Listed.{steps_of}
 use Rattle.budget_duals.specs.Tree.{number_at}
 use Rattle.budget_duals.specs.TwoBlocks.{both, goes_from, falls_from, falls, few_component, nests}
 use Rattle.budget_duals.specs.TwoBlocks.{few_inner, limits_low, steps_fit, member_fits, two_fits}
 use Rattle.budget_duals.specs.TwoBlocks.{two_inside, two_held}
-use Rattle.budget_duals.specs.Walking.{CanWalk}
 use Rattle.budget_duals.specs.declared.held.Held.{Held}
 use Rattle.budget_duals.specs.declared.limits.Limits.{Limits}
 use Rattle.budget_duals.specs.declared.members.Members.{Members}

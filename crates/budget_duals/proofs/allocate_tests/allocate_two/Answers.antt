@@ -1,5 +1,5 @@
 -- The test of what is asked is right.
-use Rattle.std.proofs.Common.{ℕ, ◌≡◌, List, [], ◌∷◌, sym, subst}
+use Rattle.std.proofs.Common.{List, [], ◌∷◌, sym, subst}
 use Rattle.rd_hulls.specs.declared.step.Step.{Step}
 use Rattle.budget_duals.specs.Certified.{IsReady}
 use Rattle.budget_duals.specs.Listed.{steps_of}
