@@ -1,9 +1,11 @@
 -- The lines of the report. Fields are separated by one space, numbers are decimal, LF ends a line.
 use Rattle.std.specs.Prelude.{ℕ, ◌+◌, ◌/◌, ◌%◌, ◌||◌, ◌&&◌, ◌==◌, nat_le, nat_lt, List, [], ◌∷◌}
-use Rattle.std.specs.Prelude.{◌++◌, if◌then◌else◌, Bool, codes, decimal, length, slice_index}
+use Rattle.std.specs.Prelude.{◌++◌, if◌then◌else◌, Bool, codes, decimal, sum, Option, Some, None}
 use Rattle.std.specs.List.{flat_map}
-use Rattle.cine_nums.specs.Limits.{limit_of}
-use Rattle.cine_nums.specs.declared.budget.Budget.TheVariants.{Frame, C0, C1, C2}
+use Rattle.budget_duals.specs.Held.{held_in, limit_in}
+use Rattle.budget_duals.specs.declared.held.Held.{Held}
+use Rattle.budget_duals.specs.declared.limits.Limits.{Limits}
+use Rattle.cine_nums.specs.declared.budget.Budget.TheVariants.{Frame, Inner, C0, C1, C2}
 use Rattle.cine_nums.specs.declared.profile.Profile.{Profile}
 use Rattle.cine_nums.specs.declared.profile.Profile.TheVariants.{TwoK, FourK}
 use Rattle.pnm_frames.specs.Fault.{number_of}
@@ -13,6 +15,7 @@ use Rattle.pnm_frames.specs.declared.fault.FrameFault.TheVariants.{WrongMaxval, 
 use Rattle.pnm_frames.specs.declared.fault.FrameFault.TheVariants.{HeightOutOfRange, SampleTooLarge}
 use Rattle.pnm_frames.specs.declared.fault.FrameFault.TheVariants.{Truncated, TrailingBytes}
 use Rattle.frame_encoder.specs.Encoded.{Encoding}
+use Rattle.frame_encoder.specs.declared.order.EncodeOrder.{EncodeOrder}
 
 -- whether a byte of a name is printed as it is: ASCII letters, digits, '.', '_' and '-'
 abbrev pub is_plain : ℕ → Bool
@@ -32,11 +35,6 @@ escaped_byte b = if is_plain b then b ∷ [] else 37 ∷ hex_digit (b / 16) ∷ 
 abbrev pub escaped : List ℕ → List ℕ
 escaped name = flat_map escaped_byte name
 
--- a budget: its name, the bytes held of it, its limit in bytes, and the price of a byte, which is 0
-abbrev pub budget : List ℕ → ℕ → ℕ → List ℕ
-budget name held limit = name ++
-    (codes "=" ++ (decimal held ++ (codes "/" ++ (decimal limit ++ codes "/0"))))
-
 -- the profile as the program's words name it
 abbrev pub profile_word : Profile → List ℕ
 profile_word TwoK = codes "2k"
@@ -48,30 +46,37 @@ ok_head profile name width height =
     codes "ok " ++ (escaped name ++ (codes " " ++ (profile_word profile
     ++ (codes " " ++ (decimal width ++ (codes "x" ++ decimal height))))))
 
--- the budgets of a codestream of so many bytes whose first three tile-parts, one of each component,
--- have so many bytes each
-abbrev pub budgets : Profile → ℕ → ℕ → ℕ → ℕ → List ℕ
-budgets profile frame c0 c1 c2 =
-    budget (codes "frame") frame (limit_of profile Frame)
-    ++ (codes " " ++ (budget (codes "c0") c0 (limit_of profile C0)
-    ++ (codes " " ++ (budget (codes "c1") c1 (limit_of profile C1)
-    ++ (codes " " ++ budget (codes "c2") c2 (limit_of profile C2))))))
+-- a budget: its name, the bytes held of it, its limit in bytes, and the price of a byte, which is 0;
+-- nothing if there is no limit
+abbrev pub budget_field : List ℕ → ℕ → Option ℕ → List ℕ
+budget_field name held None = []
+budget_field name held (Some limit) =
+    codes " " ++ (name ++ (codes "=" ++ (decimal held
+    ++ (codes "/" ++ (decimal limit ++ codes "/0")))))
+
+-- the budgets of a codestream, the outermost first
+abbrev pub budget_fields : Limits → Held → List ℕ
+budget_fields limits held =
+    budget_field (codes "frame") (held_in held Frame) (limit_in limits Frame)
+    ++ (budget_field (codes "inner") (held_in held Inner) (limit_in limits Inner)
+    ++ (budget_field (codes "c0") (held_in held C0) (limit_in limits C0)
+    ++ (budget_field (codes "c1") (held_in held C1) (limit_in limits C1)
+    ++ budget_field (codes "c2") (held_in held C2) (limit_in limits C2))))
 
 -- the number of coding passes, the distortion with nothing decoded, and the distortion with the
 -- passes that are chosen
 abbrev pub passes : ℕ → ℕ → ℕ → List ℕ
-passes count undecoded distortion =
-    codes "passes=" ++ (decimal count
-    ++ (codes " empty=" ++ (decimal undecoded ++ (codes " distortion=" ++ decimal distortion))))
+passes count empty distortion =
+    codes " passes=" ++ (decimal count
+    ++ (codes " empty=" ++ (decimal empty ++ (codes " distortion=" ++ decimal distortion))))
 
--- the line of a frame that was written without any coding pass. The 2K portion of a 4K frame isn't
--- in it yet
-abbrev pub ok_line : Profile → List ℕ → ℕ → ℕ → Encoding → List ℕ
-ok_line profile name width height e =
-    ok_head profile name width height
-    ++ (codes " " ++ (budgets profile (length e.bytes)
-    (slice_index e.part_lengths 0) (slice_index e.part_lengths 1) (slice_index e.part_lengths 2)
-    ++ (codes " " ++ (passes 0 e.undecoded e.undecoded ++ codes "\n"))))
+-- the line of a frame that was written: what its codestream holds of each budget, and how many
+-- coding passes it has of all code-blocks together
+abbrev pub ok_line : EncodeOrder → List ℕ → ℕ → ℕ → Encoding → List ℕ
+ok_line order name width height e =
+    ok_head order.profile name width height
+    ++ (budget_fields order.limits e.held
+    ++ (passes (sum e.choice) e.empty e.distortion ++ codes "\n"))
 
 -- the word of a fault, and the place or the number of bytes, if it has one
 abbrev pub fault_name : FrameFault → List ℕ

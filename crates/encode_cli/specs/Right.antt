@@ -22,7 +22,7 @@ sizes_of profile = record { width = max_width_of profile; height = max_height_of
 abbrev pub accepted : EncodeOrder → List ℕ → List ℕ → Picture → Encoding → Visit
 accepted order suffix name p e = record {
   output = Some (record { name = name ++ suffix; bytes = e.bytes });
-  line = ok_line order.profile name p.width p.height e;
+  line = ok_line order name p.width p.height e;
   refused = false;
 }
 

@@ -2,6 +2,8 @@
 ghost use Rattle.std.specs.Prelude.{◌≡◌, MatchOption, IfOk, IfSome, IfNone};
 ghost use Rattle.encode_cli.specs.Arguments.{texts, encode_words, AreCommand, IsEncode};
 ghost use Rattle.encode_cli.specs.Arguments.{AreFoldersOf};
+ghost use Rattle.encode_cli.specs.ReportLine.{profile_word};
+ghost use Rattle.cine_nums.specs.declared.profile.Profile.{Profile};
 
 use cine_nums::Profile;
 use frame_encoder::EncodeOrder;
@@ -18,16 +20,32 @@ pub struct FolderWords {
     pub suffix: String,
 }
 
-/// The source and the target, where the words are `encode SOURCE TARGET --profile 2k`.
-fn source_and_target(words: &[String]) -> Option<(&str, &str)>
+/// The profile of this word, if it is one.
+fn profile_of(word: &str) -> Option<Profile>
+    ensures { MatchOption result ((profile : Profile) → word.now ≡ profile_word profile → ⊥)
+        (λ profile. word.now ≡ profile_word profile) }
+{
+    match word {
+        "2k" => Some(Profile::TwoK),
+        "4k" => Some(Profile::FourK),
+        _ => None,
+    }
+}
+
+/// The source, the target and the profile, where the words are
+/// `encode SOURCE TARGET --profile PROFILE`.
+fn encode_words(words: &[String]) -> Option<(&str, &str, Profile)>
     ensures { MatchOption result (AreCommand (texts words.now) → ⊥)
-        (λ found. texts words.now ≡ encode_words found.0.now found.1.now) }
+        (λ found. texts words.now ≡ encode_words found.0.now found.1.now found.2) }
 {
     match words {
         [mode, source, target, option, profile]
-            if mode.as_str() == "encode"
-                && option.as_str() == "--profile"
-                && profile.as_str() == "2k" => { Some((source.as_str(), target.as_str())) }
+            if mode.as_str() == "encode" && option.as_str() == "--profile" => {
+            match profile_of(profile.as_str()) {
+                Some(profile) => Some((source.as_str(), target.as_str(), profile)),
+                None => None,
+            }
+        }
         _ => None,
     }
 }
@@ -37,10 +55,8 @@ pub fn order_of(words: &[String]) -> Option<EncodeOrder>
     ensures { MatchOption result (AreCommand (texts words.now) → ⊥)
         (λ order. IsEncode (texts words.now) order) }
 {
-    match source_and_target(words) {
-        Some(_) => Some(EncodeOrder {
-            profile: Profile::TwoK,
-        }),
+    match encode_words(words) {
+        Some((_, _, profile)) => Some(EncodeOrder::of(profile)),
         None => None,
     }
 }
@@ -51,8 +67,8 @@ pub fn places(alloc: Global, words: &[String]) -> Result<Option<FolderWords>, Al
     ensures command { IfOk result (λ found. IfSome found
         (λ folders. AreFoldersOf (texts words.now) folders)) }
 {
-    match source_and_target(words) {
-        Some((source, target)) => Ok(Some(FolderWords {
+    match encode_words(words) {
+        Some((source, target, _)) => Ok(Some(FolderWords {
             source: Some(String::from_str(alloc, source)?),
             target: Some(String::from_str(alloc, target)?),
             suffix: String::from_str(alloc, ".ppm")?,

@@ -2,10 +2,12 @@
 ghost use Rattle.std.specs.Prelude.{Option, ◌≡◌, ◌≤◌, ◌++◌, Ok, Err, [], false, map, option_map};
 ghost use Rattle.std.specs.Prelude.{Contains, OnOk, OnErr, IfOk, string_bytes};
 ghost use Rattle.std.specs.Option.{ForSome};
+ghost use Rattle.budget_duals.specs.Held.{limits_of};
 ghost use Rattle.cine_nums.specs.Profile.{max_height_of, max_width_of};
 ghost use Rattle.cine_ports.specs.WholePieces.{said_with};
 ghost use Rattle.cine_ports.specs.Outputs.{Kept};
 ghost use Rattle.pnm_frames.specs.View.{picture_of};
+ghost use Rattle.frame_encoder.specs.Encoded.{Encodes, encoding_of};
 ghost use Rattle.encode_cli.specs.Output.{kept_and};
 ghost use Rattle.encode_cli.specs.Stop.{is_outputs_stop, is_report_stop, is_source_stop};
 ghost use Rattle.encode_cli.specs.Visit.{Visit, outputs_of};
@@ -16,7 +18,7 @@ use crate::output::write_output;
 use crate::report_line::{ok_line, refused_line};
 use crate::stop::Stop;
 use cine_ports::{Outputs, Report, say};
-use frame_encoder::{EncodeOrder, encode};
+use frame_encoder::{EncodeOrder, EncodeRefusal, Encoded, encode};
 use pnm_frames::{Frame, FrameFault};
 use std::alloc::{AllocError, Global};
 
@@ -25,6 +27,24 @@ fn output_name(alloc: Global, name: &str, suffix: &str) -> Result<String, AllocE
     ensures { IfOk result (λ text. string_bytes text ≡ name.now ++ suffix.now) }
 {
     format!(in alloc; "{name}{suffix}")
+}
+
+/// Encodes a frame with the limits of the profile, of which none is too small.
+#[tactic(auto, using(frame_encoder::proofs::Allowed::own_limits))]
+fn encoded(alloc: Global, frame: &Frame, order: &EncodeOrder) -> Result<Encoded, AllocError>
+    requires some_width { 1 ≤ frame.now.width }
+    requires width { frame.now.width ≤ max_width_of order.now.profile }
+    requires some_height { 1 ≤ frame.now.height }
+    requires height { frame.now.height ≤ max_height_of order.now.profile }
+    requires limits { order.now.limits ≡ limits_of order.now.profile }
+    ensures { IfOk result (λ made.
+        Encodes order.now (picture_of frame.now) (encoding_of made)) }
+{
+    match encode(alloc, frame, order) {
+        Ok(made) => Ok(made),
+        Err(EncodeRefusal::Memory) => Err(AllocError),
+        Err(EncodeRefusal::LimitTooSmall(..)) => unreachable!(),
+    }
 }
 
 /// Writes the codestream of a frame as the order asks for it, under the frame's name and the
@@ -42,6 +62,7 @@ pub fn write_frame<O: Outputs, S: Report>(
     requires width { frame.now.width ≤ max_width_of order.now.profile }
     requires some_height { 1 ≤ frame.now.height }
     requires height { frame.now.height ≤ max_height_of order.now.profile }
+    requires limits { order.now.limits ≡ limits_of order.now.profile }
     requires outputs_working { O.has_failed outputs.old ≡ false }
     requires report_working { S.has_failed report.old ≡ false }
     requires closed { O.is_open outputs.old ≡ false }
@@ -61,8 +82,8 @@ pub fn write_frame<O: Outputs, S: Report>(
     ensures report_failed { S.has_failed report.new ≡ is_report_stop result }
 {
     let output = output_name(alloc, name, suffix)?;
-    let made = encode(alloc, frame, order)?;
-    let line = ok_line(alloc, order.profile, name, frame.width, frame.height, &made)?;
+    let made = encoded(alloc, frame, order)?;
+    let line = ok_line(alloc, order, name, frame.width, frame.height, &made)?;
     match write_output(outputs, output.as_str(), made.bytes.as_slice()) {
         Ok(()) => {}
         Err(fault) => return Err(Stop::of_outputs(fault)),

@@ -2,6 +2,7 @@
 ghost use Rattle.std.specs.Prelude.{◌≡◌, ◌<◌, ◌≤◌, ◌||◌, ◌++◌, ℕ, List, [], false, length, map};
 ghost use Rattle.std.specs.Prelude.{slice_get, IfOk, IfSome, OnOk, OnErr, Contains};
 ghost use Rattle.std.specs.Option.{ForSome};
+ghost use Rattle.budget_duals.specs.Held.{limits_of};
 ghost use Rattle.cine_nums.specs.Profile.{max_height_of, max_width_of};
 ghost use Rattle.cine_nums.specs.declared.profile.Profile.TheVariants.{FourK};
 ghost use Rattle.cine_ports.specs.Outputs.{kept_nothing};
@@ -41,6 +42,7 @@ fn visit_frame<F: Frames, O: Outputs, S: Report>(
     outputs: &mut O,
     report: &mut S,
 ) -> Result<bool, Stop>
+    requires limits { order.now.limits ≡ limits_of order.now.profile }
     requires place { i < length (F.source frames.old).names }
     requires listed { IfSome (F.source frames.old).files
         (λ files. (F.source frames.old).names ≡ map (λ file. file.name) files) }
@@ -104,6 +106,7 @@ pub fn visit_frames<F: Frames, O: Outputs, S: Report>(
     outputs: &mut O,
     report: &mut S,
 ) -> Result<bool, Stop>
+    requires limits { order.now.limits ≡ limits_of order.now.profile }
     requires unlisted { (F.source frames.old).is_listed ≡ false }
     requires source_working { F.has_failed frames.old ≡ false }
     requires outputs_working { O.has_failed outputs.old ≡ false }

@@ -1,5 +1,5 @@
 //! The program `cinema`: encodes a folder of 12-bit X'Y'Z' frames (ppm(5), magic P6, maxval 4095)
-//! into JPEG 2000 codestreams of the 2K digital cinema profile (ISO/IEC 15444-1), one for each
+//! into JPEG 2000 codestreams of a digital cinema profile, 2K or 4K (ISO/IEC 15444-1), one for each
 //! frame, within the byte limits of the DCI Digital Cinema System Specification.
 //!
 //! `run` promises what is written, what is said and why a run ended. `run_program` makes its

@@ -14,7 +14,7 @@ use system_ports::{FolderFrames, FolderOutputs, StdoutReport};
 /// What standard error says at the end of a run with this status, if anything.
 fn message(status: u8) -> Option<&'static str> {
     match status {
-        2 => Some("usage: cinema encode SRC DST --profile 2k"),
+        2 => Some("usage: cinema encode SRC DST --profile 2k|4k"),
         3 => Some("source failed"),
         4 => Some("output failed"),
         5 => Some("report failed"),

@@ -1,12 +1,14 @@
 // The lines of the report.
-ghost use Rattle.std.specs.Prelude.{◌≡◌, ◌<◌, ◌≤◌, ◌++◌, length, IfOk, OnOk, string_bytes};
+ghost use Rattle.std.specs.Prelude.{◌≡◌, ◌<◌, ◌++◌, sum, IfOk, OnOk, string_bytes};
 ghost use Rattle.frame_encoder.specs.Encoded.{encoding_of};
-ghost use Rattle.encode_cli.specs.ReportLine.{is_plain, hex_digit, escaped_byte, escaped, budget};
-ghost use Rattle.encode_cli.specs.ReportLine.{profile_word, ok_head, budgets, passes, ok_line};
+ghost use Rattle.encode_cli.specs.ReportLine.{is_plain, hex_digit, escaped_byte, escaped};
+ghost use Rattle.encode_cli.specs.ReportLine.{budget_field, budget_fields, profile_word, ok_head};
+ghost use Rattle.encode_cli.specs.ReportLine.{passes, ok_line};
 ghost use Rattle.encode_cli.specs.ReportLine.{fault_name, refused_line};
 
+use budget_duals::{Held, Limits};
 use cine_nums::{Budget, Profile};
-use frame_encoder::Encoded;
+use frame_encoder::{EncodeOrder, Encoded};
 use pnm_frames::FrameFault;
 use std::alloc::{AllocError, Global};
 
@@ -51,13 +53,6 @@ fn escaped(alloc: Global, name: &str) -> Result<String, AllocError>
     Ok(out)
 }
 
-/// A budget of bytes: how many are held, its limit, and the price of a byte, which is 0.
-fn budget(alloc: Global, name: &str, held: u32, limit: u32) -> Result<String, AllocError>
-    ensures { IfOk result (λ text. string_bytes text ≡ budget name.now held limit) }
-{
-    format!(in alloc; "{name}={held}/{limit}/0")
-}
-
 /// The profile as the program's words name it.
 fn profile_word(profile: Profile) -> &'static str
     ensures { result.now ≡ profile_word profile }
@@ -83,60 +78,84 @@ fn ok_head(
     format!(in alloc; "ok {name} {profile} {width}x{height}")
 }
 
-/// The budgets of a codestream of `frame` bytes whose tile-parts of the components have `c0`, `c1`
-/// and `c2` bytes.
-fn budgets(
+/// A budget: how many bytes are held, its limit, and the price of a byte, which is 0. Nothing if
+/// there is no limit.
+fn budget_field(
     alloc: Global,
-    profile: Profile,
-    frame: u32,
-    c0: u32,
-    c1: u32,
-    c2: u32,
+    name: &str,
+    held: u32,
+    limit: Option<u32>,
 ) -> Result<String, AllocError>
-    ensures { IfOk result (λ text. string_bytes text ≡ budgets profile frame c0 c1 c2) }
+    ensures { IfOk result (λ text. string_bytes text ≡ budget_field name.now held limit) }
 {
-    let frame = budget(alloc, "frame", frame, profile.limit(Budget::Frame))?;
-    let c0 = budget(alloc, "c0", c0, profile.limit(Budget::C0))?;
-    let c1 = budget(alloc, "c1", c1, profile.limit(Budget::C1))?;
-    let c2 = budget(alloc, "c2", c2, profile.limit(Budget::C2))?;
-    format!(in alloc; "{frame} {c0} {c1} {c2}")
+    match limit {
+        Some(limit) => format!(in alloc; " {name}={held}/{limit}/0"),
+        None => Ok(String::new(alloc)),
+    }
+}
+
+/// The budgets of a codestream, the outermost first.
+fn budget_fields(alloc: Global, limits: &Limits, held: &Held) -> Result<String, AllocError>
+    ensures { IfOk result (λ text. string_bytes text ≡ budget_fields limits.now held.now) }
+{
+    let [frame, inner, c0, c1, c2] = [
+        Budget::Frame,
+        Budget::Inner,
+        Budget::C0,
+        Budget::C1,
+        Budget::C2,
+    ];
+    let frame = budget_field(alloc, "frame", held.bytes(frame), limits.bytes(frame))?;
+    let inner = budget_field(alloc, "inner", held.bytes(inner), limits.bytes(inner))?;
+    let c0 = budget_field(alloc, "c0", held.bytes(c0), limits.bytes(c0))?;
+    let c1 = budget_field(alloc, "c1", held.bytes(c1), limits.bytes(c1))?;
+    let c2 = budget_field(alloc, "c2", held.bytes(c2), limits.bytes(c2))?;
+    format!(in alloc; "{frame}{inner}{c0}{c1}{c2}")
+}
+
+/// The sum of a choice: how many coding passes there are of all code-blocks together.
+fn pass_count(choice: &[u8]) -> u128
+    ensures { result ≡ sum choice.now }
+{
+    let mut count = 0;
+    for passes in choice {
+        count += u128::from(*passes);
+    }
+    count
 }
 
 /// How many coding passes there are, the distortion with nothing decoded, and the distortion with
 /// those that are chosen, both in units of half a step squared.
 fn passes(
     alloc: Global,
-    count: u32,
-    undecoded: u128,
+    count: u128,
+    empty: u128,
     distortion: u128,
 ) -> Result<String, AllocError>
-    ensures { IfOk result (λ text. string_bytes text ≡ passes count undecoded distortion) }
+    ensures { IfOk result (λ text. string_bytes text ≡ passes count empty distortion) }
 {
-    format!(in alloc; "passes={count} empty={undecoded} distortion={distortion}")
+    format!(in alloc; " passes={count} empty={empty} distortion={distortion}")
 }
 
-/// The line of a frame of `width` by `height` samples that was written without any coding pass: its
-/// name, its profile, how many bytes its codestream and the tile-parts of its components hold, and
-/// its distortion.
+/// The line of a frame of `width` by `height` samples that was written: its name, its profile, how
+/// many bytes its codestream holds of each budget of the order, its coding passes, and its
+/// distortion.
 pub fn ok_line(
     alloc: Global,
-    profile: Profile,
+    order: &EncodeOrder,
     name: &str,
     width: u32,
     height: u32,
     made: &Encoded,
 ) -> Result<String, AllocError>
-    requires parts { 3 ≤ length made.now.part_lengths.items }
-    requires size { length made.now.bytes.items < 4294967296 }
     ensures { IfOk result (λ line. string_bytes line
-        ≡ ok_line profile name.now width height (encoding_of made.now)) }
+        ≡ ok_line order.now name.now width height (encoding_of made.now)) }
 {
-    let head = ok_head(alloc, profile, name, width, height)?;
-    let parts = made.part_lengths.as_slice();
-    let frame = made.bytes.len() as u32;
-    let budgets = budgets(alloc, profile, frame, parts[0], parts[1], parts[2])?;
-    let passes = passes(alloc, 0, made.undecoded, made.undecoded)?;
-    format!(in alloc; "{head} {budgets} {passes}\n")
+    let head = ok_head(alloc, order.profile, name, width, height)?;
+    let budgets = budget_fields(alloc, &order.limits, &made.held)?;
+    let count = pass_count(made.choice.as_slice());
+    let passes = passes(alloc, count, made.empty, made.distortion)?;
+    format!(in alloc; "{head}{budgets}{passes}\n")
 }
 
 /// The word of a fault, and the place or the number of bytes, if it has one.

@@ -26,7 +26,7 @@ fn visited_status(some_refused: bool) -> u8
 /// some was, 2 where the arguments are no command, 3, 4 and 5 where a call of the source, the
 /// outputs and the report failed, and 6 where memory ran out. A failed call ends the run at once,
 /// and so does out of memory; an object of which a call has failed isn't called again.
-#[tactic(auto, using(crate::proofs::Progress::all_visited, crate::proofs::Progress::run_broken, crate::proofs::Limits::visited_short, crate::proofs::Limits::broken_short, crate::proofs::Limits::none_short, crate::proofs::Stops::source_status, crate::proofs::Stops::outputs_status, crate::proofs::Stops::report_status))]
+#[tactic(auto, using(crate::proofs::Progress::all_visited, crate::proofs::Progress::run_broken, crate::proofs::Limits::visited_short, crate::proofs::Limits::broken_short, crate::proofs::Limits::none_short, crate::proofs::FiveArguments::is_command, crate::proofs::Stops::source_status, crate::proofs::Stops::outputs_status, crate::proofs::Stops::report_status))]
 pub fn run<F: Frames, O: Outputs, S: Report>(
     alloc: Global,
     words: &[String],

@@ -201,6 +201,7 @@ fn other_words_are_no_command(rt: HostRuntime) -> Result<(), Fail> {
         "encode src dst --profile 3k",
         "encode src dst --profile 2k --frame-bytes 0",
         "encode src dst 2k --profile",
+        "encode src dst --profile 4",
         "Encode src dst --profile 2k",
         "check src dst --profile 2k",
     ] {

@@ -2,9 +2,11 @@
 use Rattle.std.specs.Prelude.{ℕ, List}
 use Rattle.band_geometry.specs.declared.geometry.Geometry.{Geometry}
 use Rattle.band_geometry.specs.declared.places.BlockId.{BlockId}
+use Rattle.budget_duals.specs.declared.held.Held.{Held}
 use Rattle.frame_coefficients.specs.BuiltIn.{built_in_steps}
 use Rattle.profile_reader.specs.Packets.{BlockBytes, left_out, written_body}
 use Rattle.profile_reader.specs.Spell.{part_length, part_lengths, written_part, spell}
+use Rattle.frame_encoder.specs.Held.{held_for}
 
 -- no code-block is included
 abbrev pub nothing : BlockId → BlockBytes
@@ -24,3 +26,7 @@ empty_part g index = written_part g (built_in_steps g.profile) nothing index
 
 abbrev pub empty_codestream : Geometry → List ℕ
 empty_codestream g = spell g (built_in_steps g.profile) nothing
+
+-- what the codestream holds
+abbrev pub empty_held : Geometry → Held
+empty_held g = held_for g (built_in_steps g.profile) nothing

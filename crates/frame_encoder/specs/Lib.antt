@@ -1,6 +1,9 @@
--- The promises of `encode`: Encoded, in the words of Distortion, and of Packets and Spell of
--- profile_reader.
+-- The promises of `encode`: Encoded and Refused, in the words of Orders, Distortion and Held, and of
+-- Packets, Spell and Chosen of profile_reader.
 pub mod Encoded
+pub mod Refused
+pub mod Orders
 pub mod Distortion
--- The inside of the crate: codestreams whose packets include nothing.
+pub mod Held
+-- Codestreams whose packets include nothing.
 pub mod Empty

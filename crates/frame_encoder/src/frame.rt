@@ -1,28 +1,41 @@
 // One frame, from its samples to its codestream.
-ghost use Rattle.std.specs.Prelude.{◌≡◌, ◌≤◌, IfOk};
-ghost use Rattle.cine_nums.specs.Profile.{levels_of, max_height_of, max_width_of};
+ghost use Rattle.std.specs.Prelude.{ℕ, ◌≡◌, ◌↔◌, ◌≤◌, Err, IfOk};
+ghost use Rattle.budget_duals.specs.Held.{limits_of, IsWithin};
+ghost use Rattle.cine_nums.specs.Profile.{max_height_of, max_width_of};
+ghost use Rattle.cine_nums.specs.declared.budget.Budget.{Budget};
 ghost use Rattle.pnm_frames.specs.View.{picture_of};
 ghost use Rattle.frame_encoder.specs.Distortion.{undecoded_distortion};
+ghost use Rattle.frame_encoder.specs.Empty.{empty_held};
 ghost use Rattle.frame_encoder.specs.Encoded.{Encodes, IsGeometryOf, encoding_of};
+ghost use Rattle.frame_encoder.specs.Orders.{AreLimitsFor};
+ghost use Rattle.frame_encoder.specs.Refused.{IsTooSmall};
+ghost use Rattle.frame_encoder.specs.declared.refusal.EncodeRefusal.TheVariants.{LimitTooSmall};
 
-use crate::codestream::{EmptyCodestream, empty_codestream};
+use crate::codestream::empty_codestream;
+use crate::counts::empty_held;
 use crate::order::EncodeOrder;
+use crate::refusal::EncodeRefusal;
 use band_geometry::Geometry;
+use budget_duals::Held;
 use cine_nums::Profile;
 use dz_quantiser::StepSizes;
 use frame_coefficients::coefficients;
 use pnm_frames::Frame;
 use std::alloc::{AllocError, Global};
 
-/// The codestream of a frame, and what was counted of it.
+/// The codestream of a frame, and what was chosen and counted of it.
 #[derive(Drop)]
 pub struct Encoded {
     /// The codestream, from SOC to EOC.
     pub bytes: Vec<u8>,
-    /// The bytes of each tile-part, from its SOT on.
-    pub part_lengths: Vec<u32>,
+    /// The number of coding passes of each code-block, by block number.
+    pub choice: Vec<u8>,
+    /// What the codestream holds in its byte budgets, in bytes.
+    pub held: Held,
     /// The distortion with nothing decoded, in units of half a step squared.
-    pub undecoded: u128,
+    pub empty: u128,
+    /// The distortion with the chosen passes, in the same units.
+    pub distortion: u128,
 }
 
 /// The geometry of a frame by the levels of the profile.
@@ -45,7 +58,8 @@ fn undecoded_distortion(
     frame: &Frame,
 ) -> Result<u128, AllocError>
     requires { IsGeometryOf profile (picture_of frame.now) geometry.now }
-    ensures { IfOk result (λ sum. sum ≡ undecoded_distortion profile (picture_of frame.now)) }
+    ensures { IfOk result (λ sum.
+        sum ≡ undecoded_distortion geometry.now (picture_of frame.now)) }
 {
     let steps = StepSizes::built_in(profile);
     let made = coefficients(
@@ -59,26 +73,56 @@ fn undecoded_distortion(
     Ok(made.undecoded_distortion)
 }
 
-/// Encodes a frame of at most the sizes of the order's profile, without any coding pass. The
-/// codestream is within the byte limits of the profile, as a whole and component by component. The
-/// only refusal is out of memory.
-pub fn encode(alloc: Global, frame: &Frame, order: &EncodeOrder) -> Result<Encoded, AllocError>
+/// Encodes a frame of this geometry, for which no limit is too small.
+fn encode_within(
+    alloc: Global,
+    frame: &Frame,
+    order: &EncodeOrder,
+    geometry: &Geometry,
+) -> Result<Encoded, AllocError>
+    requires geometry { IsGeometryOf order.now.profile (picture_of frame.now) geometry.now }
+    requires limits { IsWithin order.now.limits (empty_held geometry.now) }
+    ensures { IfOk result (λ made.
+        Encodes order.now (picture_of frame.now) (encoding_of made)) }
+{
+    let choice = vec![in alloc; 0u8; geometry.blocks() as usize]?;
+    let bytes = empty_codestream(alloc, geometry)?;
+    let empty = undecoded_distortion(alloc, order.profile, geometry, frame)?;
+    Ok(Encoded {
+        bytes,
+        choice,
+        held: empty_held(geometry),
+        empty,
+        distortion: empty,
+    })
+}
+
+/// Encodes a frame of at most the sizes of the order's profile, without any coding pass. What the
+/// codestream holds in each byte budget is within the order's limits.
+///
+/// `LimitTooSmall` comes exactly if the codestream without any coding pass doesn't fit these
+/// limits, before any memory is taken, and never with the limits of the profile.
+pub fn encode(alloc: Global, frame: &Frame, order: &EncodeOrder) -> Result<Encoded, EncodeRefusal>
     requires some_width { 1 ≤ frame.now.width }
     requires width { frame.now.width ≤ max_width_of order.now.profile }
     requires some_height { 1 ≤ frame.now.height }
     requires height { frame.now.height ≤ max_height_of order.now.profile }
+    requires limits { AreLimitsFor order.now.profile order.now.limits }
     ensures encodes { IfOk result (λ made.
         Encodes order.now (picture_of frame.now) (encoding_of made)) }
+    ensures too_small { (budget : Budget) (needed : ℕ) →
+        (result ≡ Err (LimitTooSmall budget needed))
+        ↔ IsTooSmall order.now (picture_of frame.now) budget needed }
+    ensures never { order.now.limits ≡ limits_of order.now.profile →
+        (budget : Budget) (needed : ℕ) → result ≡ Err (LimitTooSmall budget needed) → ⊥ }
 {
     let geometry = geometry_of(order.profile, frame);
-    let EmptyCodestream {
-        bytes,
-        part_lengths,
-    } = empty_codestream(alloc, &geometry)?;
-    let undecoded = undecoded_distortion(alloc, order.profile, &geometry, frame)?;
-    Ok(Encoded {
-        bytes,
-        part_lengths,
-        undecoded,
-    })
+    let empty = empty_held(&geometry);
+    match order.limits.broken(&empty) {
+        Some(budget) => Err(EncodeRefusal::LimitTooSmall(budget, empty.bytes(budget))),
+        None => match encode_within(alloc, frame, order, &geometry) {
+            Ok(made) => Ok(made),
+            Err(AllocError) => Err(EncodeRefusal::Memory),
+        },
+    }
 }

@@ -1,25 +1,30 @@
-//! The codestream of one frame of a digital cinema profile (ISO/IEC 15444-1, Annex A), within the
-//! byte limits of the DCI Digital Cinema System Specification, and the numbers of its report line.
-//! No coding pass is chosen yet: every packet is the byte 00, which includes no code-block
-//! (B.10.3).
+//! The codestream of one frame of a digital cinema profile (ISO/IEC 15444-1, Annex A), within byte
+//! limits that are at most those of the DCI Digital Cinema System Specification, and the numbers of
+//! its report line. No coding pass is chosen yet: every packet is the byte 00, which includes no
+//! code-block (B.10.3).
 //!
 //! The contract of [`encode`] is one relation (`Encodes` in specs/Encoded.antt): the bytes are
-//! those that the standard's parts spell (`spell` in specs/Spell.antt), and all byte limits are
-//! kept. The only refusal is out of memory.
+//! those that the standard's parts spell for the chosen coding passes (`spell` and `chosen` of
+//! profile_reader), and all limits of the order are kept. A frame is refused exactly if a limit is
+//! too small for the codestream without any coding pass, or if memory runs out.
 //!
 //! ```
-//! let order = EncodeOrder { profile: Profile::TwoK };
+//! let order = EncodeOrder::of(Profile::TwoK);
 //! let made = encode(alloc, &frame, &order)?;
-//! assert!(made.bytes.len() as u32 <= Profile::TwoK.limit(Budget::Frame));
+//! assert!(made.held.frame <= order.limits.frame);
 //! ```
 #![tactic(auto)]
 
 mod codestream;
+mod counts;
 mod frame;
+mod header;
 mod order;
 mod part;
+mod refusal;
 #[cfg(test)]
 mod tests;
 
 pub use frame::{Encoded, encode};
 pub use order::EncodeOrder;
+pub use refusal::EncodeRefusal;

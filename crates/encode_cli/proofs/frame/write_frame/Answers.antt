@@ -6,7 +6,6 @@ use Rattle.pnm_frames.specs.View.{picture_of}
 use Rattle.pnm_frames.specs.Picture.{Picture}
 use Rattle.frame_encoder.specs.declared.order.EncodeOrder.{EncodeOrder}
 use Rattle.frame_encoder.specs.Encoded.{Encoding, Encodes, encoding_of}
-use Rattle.frame_encoder.proofs.Lengths.{enough_lengths}
 use Rattle.encode_cli.specs.ReportLine.{ok_line}
 use Rattle.encode_cli.specs.Right.{accepted, IsAccepted, RightFor}
 use Rattle.encode_cli.proofs.Breaks.{output_broken, output_made, line_broken}
@@ -25,15 +24,6 @@ output_is : (name suffix bytes made shown : List ℕ) → shown ≡ name ++ suff
 output_is name suffix bytes made shown p q =
     sym (ap (λ (n : List ℕ). output n bytes) p ∙ ap (λ (b : List ℕ). output (name ++ suffix) b) q)
 
-pub ok_line-requires-clause-parts : goal.ok_line-requires-clause-parts
-ok_line-requires-clause-parts g c =
-    enough_lengths c.args.order.now (picture_of c.args.frame.now)
-    (encoding_of c.in_ok-made.made) c.in_ok-made.ensures.encodes
-
-pub ok_line-requires-clause-size : goal.ok_line-requires-clause-size
-ok_line-requires-clause-size g c = let short =
-    c.in_ok-made.ensures.encodes.frame_limit in omega (arith, short)
-
 pub returns-in-Err-clause-err : goal.returns-in-Err-clause-err
 returns-in-Err-clause-err g c =
     let p = picture_of c.args.frame.now in
@@ -42,7 +32,7 @@ returns-in-Err-clause-err g c =
     (accepted c.args.order.now c.args.suffix.now c.args.name.now p e)
     c.as_str.result.now c.as_slice.result.now (g.O.Outputs.kept c.args.outputs.now)
     (g.O.Outputs.kept c.write_output.new.outputs) (g.S.Report.said c.args.report.now)
-    (is_accepted c.args.order.now c.args.suffix.now c.args.name.now p e c.in_ok-made.ensures.encodes)
+    (is_accepted c.args.order.now c.args.suffix.now c.args.name.now p e c.in_ok-made.ensures)
     (output_is c.args.name.now c.args.suffix.now c.as_slice.result.now e.bytes c.as_str.result.now
     (c.as_str.ensures.value ∙ c.in_ok-output.ensures) c.as_slice.ensures.value)
     c.requires.at_rest c.in-Err.ensures.err
@@ -53,7 +43,7 @@ returns-in-Ok-say-clause-ok g c =
     let e = encoding_of c.in_ok-made.made in
     let visit = accepted c.args.order.now c.args.suffix.now c.args.name.now p e in (
       visit,
-      is_accepted c.args.order.now c.args.suffix.now c.args.name.now p e c.in_ok-made.ensures.encodes,
+      is_accepted c.args.order.now c.args.suffix.now c.args.name.now p e c.in_ok-made.ensures,
       output_made visit c.as_str.result.now c.as_slice.result.now
           (g.O.Outputs.kept c.args.outputs.now) (g.O.Outputs.kept c.write_output.new.outputs)
           (output_is c.args.name.now c.args.suffix.now c.as_slice.result.now e.bytes c.as_str.result.now (c.as_str.ensures.value ∙ c.in_ok-output.ensures) c.as_slice.ensures.value)
@@ -71,7 +61,7 @@ returns-clause-err g c =
     (Ok p)) visit c.as_bytes.result.now
     (g.O.Outputs.kept c.args.outputs.now) (g.O.Outputs.kept c.write_output.new.outputs)
     (g.S.Report.said c.args.report.now) (g.S.Report.said c.say.new.report)
-    (is_accepted c.args.order.now c.args.suffix.now c.args.name.now p e c.in_ok-made.ensures.encodes) (c.as_bytes.ensures.value ∙ c.in_ok-line.ensures)
+    (is_accepted c.args.order.now c.args.suffix.now c.args.name.now p e c.in_ok-made.ensures) (c.as_bytes.ensures.value ∙ c.in_ok-line.ensures)
     (output_made visit c.as_str.result.now c.as_slice.result.now
     (g.O.Outputs.kept c.args.outputs.now) (g.O.Outputs.kept c.write_output.new.outputs)
     (output_is c.args.name.now c.args.suffix.now c.as_slice.result.now e.bytes c.as_str.result.now

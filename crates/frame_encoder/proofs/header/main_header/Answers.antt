@@ -2,7 +2,7 @@ use Rattle.std.proofs.Common.{◌<◌, List, sym, subst}
 use Rattle.std.specs.List.{All}
 use Rattle.dz_quantiser.specs.declared.band.BandStep.{BandStep}
 use Rattle.frame_encoder.proofs.Steps.{exponents, mantissas}
-use Rattle.frame_encoder.proofs.codestream.main_header.Goals as goal
+use Rattle.frame_encoder.proofs.header.main_header.Goals as goal
 
 pub main_bytes-requires-clause-exponents : goal.main_bytes-requires-clause-exponents
 main_bytes-requires-clause-exponents c =
