@@ -126,12 +126,7 @@ fn pass_count(choice: &[u8]) -> u128
 
 /// How many coding passes there are, the distortion with nothing decoded, and the distortion with
 /// those that are chosen, both in units of half a step squared.
-fn passes(
-    alloc: Global,
-    count: u128,
-    empty: u128,
-    distortion: u128,
-) -> Result<String, AllocError>
+fn passes(alloc: Global, count: u128, empty: u128, distortion: u128) -> Result<String, AllocError>
     ensures { IfOk result (λ text. string_bytes text ≡ passes count empty distortion) }
 {
     format!(in alloc; " passes={count} empty={empty} distortion={distortion}")

@@ -214,13 +214,18 @@ fn other_words_are_no_command(rt: HostRuntime) -> Result<(), Fail> {
 }
 
 /// Runs over these folders.
-fn run_between(rt: &HostRuntime, source: &str, target: &str) -> Result<(u8, MemoryReport), Fail> {
+fn run_between(
+    rt: &HostRuntime,
+    command: &str,
+    source: &str,
+    target: &str,
+) -> Result<(u8, MemoryReport), Fail> {
     let alloc = rt.alloc();
     let suffix = String::from_str(alloc, ".ppm")?;
     let mut frames = FolderFrames::new(rt.clone()?, String::from_str(alloc, source)?, suffix);
     let mut outputs = FolderOutputs::new(rt.clone()?, String::from_str(alloc, target)?);
     let mut report = MemoryReport::new(alloc, Vec::new(alloc), 1000);
-    let words = words(alloc, COMMAND)?;
+    let words = words(alloc, command)?;
     let status = run(
         alloc,
         words.as_slice(),
@@ -256,7 +261,7 @@ fn folder_to_folder(rt: HostRuntime) -> Result<(), Fail> {
     fs::write(&rt, "test-run/src/large.ppm", large.as_slice())?;
     let odd = grey(alloc, b"P6\n129 257\n4095\n", 129 * 257)?;
     fs::write(&rt, "test-run/src/odd.ppm", odd.as_slice())?;
-    let (status, report) = run_between(&rt, "test-run/src", "test-run/dst")?;
+    let (status, report) = run_between(&rt, COMMAND, "test-run/src", "test-run/dst")?;
     assert_eq!(rt; status, 0);
     assert!(rt; report.bytes() == SIZES.as_bytes());
     let written = fs::read(&rt, "test-run/dst/a.j2c")?;
@@ -274,13 +279,44 @@ fn folder_to_folder(rt: HostRuntime) -> Result<(), Fail> {
     Ok(())
 }
 
+/// The lines of a grey frame of one pixel and of the largest of the 4K profile.
+const SIZES_OF_4K: &str = "\
+ok a 4k 1x1 frame=276/1302083/0 inner=231/1302083/0 c0=20/1041666/0 c1=20/1041666/0 c2=20/1041666/0 passes=0 empty=0 distortion=0\n\
+ok large 4k 4096x2160 frame=864/1302083/0 inner=390/1302083/0 c0=73/1041666/0 c1=73/1041666/0 c2=73/1041666/0 passes=0 empty=0 distortion=0\n";
+
+#[test]
+fn folder_to_folder_in_4k(rt: HostRuntime) -> Result<(), Fail> {
+    let alloc = rt.alloc();
+    let _ = fs::remove_dir_all(&rt, "test-4k");
+    fs::create_dir_all(&rt, "test-4k/src")?;
+    fs::write(&rt, "test-4k/src/a.ppm", GREY)?;
+    let large = grey(alloc, b"P6\n4096 2160\n4095\n", 4096 * 2160)?;
+    fs::write(&rt, "test-4k/src/large.ppm", large.as_slice())?;
+    let command = "encode src dst --profile 4k";
+    let (status, report) = run_between(&rt, command, "test-4k/src", "test-4k/dst")?;
+    assert_eq!(rt; status, 0);
+    assert!(rt; report.bytes() == SIZES_OF_4K.as_bytes());
+    for (path, length, sides) in [
+        ("test-4k/dst/a.j2c", 276, [0, 0, 0, 1, 0, 0, 0, 1]),
+        ("test-4k/dst/large.j2c", 864, [0, 0, 0x10, 0, 0, 0, 8, 0x70]),
+    ] {
+        let written = fs::read(&rt, path)?;
+        assert_eq!(rt; written.len(), length);
+        assert!(rt; written.get(6..8) == Some([0, 4].as_slice()));
+        assert!(rt; written.get(8..16) == Some(sides.as_slice()));
+        assert!(rt; written.ends_with(&[0xFF, 0xD9]));
+    }
+    fs::remove_dir_all(&rt, "test-4k")?;
+    Ok(())
+}
+
 #[test]
 fn an_output_that_cant_have_its_name_ends_a_run(rt: HostRuntime) -> Result<(), Fail> {
     let _ = fs::remove_dir_all(&rt, "test-taken");
     fs::create_dir_all(&rt, "test-taken/dst/a.j2c/taken")?;
     fs::create_dir_all(&rt, "test-taken/src")?;
     fs::write(&rt, "test-taken/src/a.ppm", GREY)?;
-    let (status, report) = run_between(&rt, "test-taken/src", "test-taken/dst")?;
+    let (status, report) = run_between(&rt, COMMAND, "test-taken/src", "test-taken/dst")?;
     assert_eq!(rt; status, 4);
     assert!(rt; report.bytes().is_empty());
     let unfinished = fs::read(&rt, "test-taken/dst/a.j2c.part")?;

@@ -1,12 +1,11 @@
-use Rattle.std.proofs.Common.{◌≡◌, ◌++◌, ◌∙◌, ◌<◌, ◌≤◌, ℕ, List, Option, Some, Ok, length, ap, sym}
-use Rattle.std.proofs.Common.{option_map, refl, arith, subst}
+use Rattle.std.proofs.Common.{◌≡◌, ◌++◌, ◌∙◌, ℕ, List, Option, Some, Ok, ap, sym}
+use Rattle.std.proofs.Common.{option_map, refl}
 use Rattle.cine_ports.specs.Source.{File}
 use Rattle.cine_ports.specs.WholePieces.{said_with}
 use Rattle.pnm_frames.specs.View.{picture_of}
 use Rattle.pnm_frames.specs.Picture.{Picture}
 use Rattle.frame_encoder.specs.declared.order.EncodeOrder.{EncodeOrder}
 use Rattle.frame_encoder.specs.Encoded.{Encoding, Encodes, encoding_of}
-use Rattle.encode_cli.specs.ReportLine.{ok_line}
 use Rattle.encode_cli.specs.Right.{accepted, IsAccepted, RightFor}
 use Rattle.encode_cli.proofs.Breaks.{output_broken, output_made, line_broken}
 use Rattle.encode_cli.proofs.frame.write_frame.Goals as goal

@@ -1,4 +1,4 @@
-use Rattle.std.proofs.Common.{◌≡◌, ◌∙◌, ℕ, List, Option, Result, Ok, Err, [], option_map, refl, sym}
+use Rattle.std.proofs.Common.{◌≡◌, Option, Result, Ok, Err, refl, sym}
 use Rattle.std.proofs.Common.{ap, subst}
 use Rattle.cine_ports.specs.Outputs.{Kept}
 use Rattle.pnm_frames.specs.declared.fault.FrameFault.{FrameFault}
@@ -7,8 +7,7 @@ use Rattle.pnm_frames.specs.declared.refusal.FrameRefusal.TheVariants as refusal
 use Rattle.pnm_frames.specs.Fault.{Fails}
 use Rattle.pnm_frames.specs.Picture.{Picture}
 use Rattle.pnm_frames.specs.View.{picture_of}
-use Rattle.encode_cli.specs.Output.{kept_and}
-use Rattle.encode_cli.specs.Right.{refused, RightFor}
+use Rattle.encode_cli.specs.Right.{refused}
 use Rattle.encode_cli.specs.Progress.{VisitBrokeOff}
 use Rattle.encode_cli.specs.Visit.{Visit}
 use Rattle.encode_cli.proofs.Breaks.{none_added}
