@@ -30,7 +30,8 @@ pub five_arguments : {A : Type 0} (words : List (String A))
     true ≡ bytes_eq m (codes "encode") → o ≡ string_bytes option →
     true ≡ bytes_eq o (codes "--profile") → p ≡ string_bytes profile → p ≡ profile_word found →
     s ≡ string_bytes source → t ≡ string_bytes target → texts words ≡ encode_words s t found
-five_arguments words mode source target option profile m o p s t found few many h0 h1 h2 h3 h4 is_m same_m is_o same_o is_p same_p is_s is_t =
+five_arguments words mode source target option profile m o p s t found few many h0 h1 h2 h3 h4 is_m
+    same_m is_o same_o is_p same_p is_s is_t =
     let items = five_items words mode source target option profile few many h0 h1 h2 h3 h4 in
     let first : m ≡ codes "encode" = (bytes_eq-Decides m (codes "encode")).0 (sym same_m) in
     let fourth : o ≡ codes "--profile" = (bytes_eq-Decides o (codes "--profile")).0 (sym same_o) in

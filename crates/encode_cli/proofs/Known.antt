@@ -60,7 +60,8 @@ right_at order suffix (file ∷ files) zero name bytes visit p q right =
       refl,
       subst (λ (n : List ℕ). RightFor order suffix n
           (frame_of (sizes_of order.profile) file.bytes) visit) (sym same_name)
-          (subst (λ (b : List ℕ). RightFor order suffix name (frame_of (sizes_of order.profile) b) visit)
+          (subst (λ (b : List ℕ). RightFor order suffix name (frame_of (sizes_of order.profile) b)
+              visit)
           (sym same_bytes) right),
     )
 right_at order suffix (file ∷ files) (suc i) name bytes visit p q right =
@@ -154,7 +155,8 @@ pub breaks_at : (order : EncodeOrder) (suffix : List ℕ) (first begun read : So
 breaks_at order suffix first begun read i name left limits found k0 k1 s0 s1 was broken = record {
   point = broken.point;
   is_point = broken.is_point;
-  place = point_at order suffix first begun read i name left limits found broken.point was broken.of_visit;
+  place = point_at order suffix first begun read i name left limits found broken.point was
+      broken.of_visit;
   kept = broken.kept;
   said = broken.said;
 }

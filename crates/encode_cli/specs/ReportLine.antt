@@ -46,8 +46,8 @@ ok_head profile name width height =
     codes "ok " ++ (escaped name ++ (codes " " ++ (profile_word profile
     ++ (codes " " ++ (decimal width ++ (codes "x" ++ decimal height))))))
 
--- a budget: its name, the bytes held of it, its limit in bytes, and the price of a byte, which is 0;
--- nothing if there is no limit
+-- a budget: its name, the bytes held of it, its limit in bytes, and the price of a byte, which is
+-- 0; nothing if there is no limit
 abbrev pub budget_field : List ℕ → ℕ → Option ℕ → List ℕ
 budget_field name held None = []
 budget_field name held (Some limit) =

@@ -54,8 +54,8 @@ planes_of g p component =
     coefficients_of g.levels g.width g.height (built_in_steps g.profile) component p.x p.y p.z
 
 -- A choice has one number of coding passes for each code-block, by block number. It is at most
--- 3 P - 2, where P is the number of bit-planes of the block's largest magnitude: the first bit-plane
--- has one pass and each further one three (Annex D.3); a block without a bit-plane has none.
+-- 3 P - 2, where P is the number of bit-planes of the block's largest magnitude: the first one has
+-- one pass and each further one three (Annex D.3); a block without a bit-plane has none.
 pub record IsChoice (g : Geometry) (planes : Planes) (choice : List ℕ) : Type 0 where
   pub count : length choice ≡ length (all_blocks g)
   pub most : (b : BlockId) → IsBlock g b →

@@ -1,5 +1,5 @@
--- The promises of `encode`: Encoded and Refused, in the words of Orders, Distortion and Held, and of
--- Packets, Spell and Chosen of profile_reader.
+-- The promises of `encode`: Encoded and Refused, in the words of Orders, Distortion and Held, and
+-- of Packets, Spell and Chosen of profile_reader.
 pub mod Encoded
 pub mod Refused
 pub mod Orders

@@ -6,8 +6,8 @@ use Rattle.cine_nums.specs.declared.budget.Budget.{Budget}
 use Rattle.budget_duals.specs.Held.{limit_in}
 use Rattle.budget_duals.specs.declared.limits.Limits.{Limits}
 
--- Limits are for a profile: none is above the profile's, and that of the 2K portion is there exactly
--- if the profile has such a budget.
+-- Limits are for a profile: none is above the profile's, and there is one for the 2K portion
+-- exactly if the profile has such a budget.
 pub record AreLimitsFor (profile : Profile) (limits : Limits) : Type 0 where
   pub most : (budget : Budget) → IfSome (limit_in limits budget) (λ n. n ≤ limit_of profile budget)
   pub inner : is_some limits.inner ≡ has_inner profile

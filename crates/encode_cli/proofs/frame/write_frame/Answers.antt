@@ -45,7 +45,9 @@ returns-in-Ok-say-clause-ok g c =
       is_accepted c.args.order.now c.args.suffix.now c.args.name.now p e c.in_ok-made.ensures,
       output_made visit c.as_str.result.now c.as_slice.result.now
           (g.O.Outputs.kept c.args.outputs.now) (g.O.Outputs.kept c.write_output.new.outputs)
-          (output_is c.args.name.now c.args.suffix.now c.as_slice.result.now e.bytes c.as_str.result.now (c.as_str.ensures.value ∙ c.in_ok-output.ensures) c.as_slice.ensures.value)
+          (output_is c.args.name.now c.args.suffix.now c.as_slice.result.now e.bytes
+              c.as_str.result.now (c.as_str.ensures.value ∙ c.in_ok-output.ensures)
+                  c.as_slice.ensures.value)
           c.in-Ok.ensures.ok,
       c.in-Ok-say.ensures.ok ∙ ap (λ bytes. option_map (said_with bytes)
           (g.S.Report.said c.args.report.now)) (c.as_bytes.ensures.value ∙ c.in_ok-line.ensures),
@@ -60,7 +62,8 @@ returns-clause-err g c =
     (Ok p)) visit c.as_bytes.result.now
     (g.O.Outputs.kept c.args.outputs.now) (g.O.Outputs.kept c.write_output.new.outputs)
     (g.S.Report.said c.args.report.now) (g.S.Report.said c.say.new.report)
-    (is_accepted c.args.order.now c.args.suffix.now c.args.name.now p e c.in_ok-made.ensures) (c.as_bytes.ensures.value ∙ c.in_ok-line.ensures)
+    (is_accepted c.args.order.now c.args.suffix.now c.args.name.now p e c.in_ok-made.ensures)
+        (c.as_bytes.ensures.value ∙ c.in_ok-line.ensures)
     (output_made visit c.as_str.result.now c.as_slice.result.now
     (g.O.Outputs.kept c.args.outputs.now) (g.O.Outputs.kept c.write_output.new.outputs)
     (output_is c.args.name.now c.args.suffix.now c.as_slice.result.now e.bytes c.as_str.result.now

@@ -20,7 +20,8 @@ faulty : (refusal : FrameRefusal) (fault : FrameFault) (read : Result Picture Fr
     refusal ≡ refusals.Fault fault → Fails refusal read → read ≡ Err fault
 faulty refusal fault read is fails = subst (λ (r : FrameRefusal). Fails r read) is fails
 
-pub returns-in_err-write_frame-in-Ok-read_frame-clause-err : goal.returns-in_err-write_frame-in-Ok-read_frame-clause-err
+pub returns-in_err-write_frame-in-Ok-read_frame-clause-err :
+    goal.returns-in_err-write_frame-in-Ok-read_frame-clause-err
 returns-in_err-write_frame-in-Ok-read_frame-clause-err g c =
     on_err c.from_residual.result
     (breaks_at c.args.order.now c.args.suffix.now (g.F.Frames.source c.args.frames.now)
@@ -39,7 +40,8 @@ returns-in_err-write_frame-in-Ok-read_frame-clause-err g c =
       exact = c.in-Ok-read_frame.ensures.exact;
     }) c.in_err-write_frame-in-Ok-read_frame.ensures.err)
 
-pub returns-in_ok-write_frame-in-Ok-read_frame-clause-ok : goal.returns-in_ok-write_frame-in-Ok-read_frame-clause-ok
+pub returns-in_ok-write_frame-in-Ok-read_frame-clause-ok :
+    goal.returns-in_ok-write_frame-in-Ok-read_frame-clause-ok
 returns-in_ok-write_frame-in-Ok-read_frame-clause-ok g c =
     let done = c.in_ok-write_frame-in-Ok-read_frame.ensures.ok in
     record {
