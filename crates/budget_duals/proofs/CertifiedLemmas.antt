@@ -11,7 +11,7 @@ use Rattle.allocation_bound.specs.Budgets.{chain}
 use Rattle.allocation_bound.specs.Laws.{HasCertificate}
 use Rattle.allocation_bound.specs.Ledger.{IsGap}
 use Rattle.allocation_bound.specs.Refused.{grow, price, price_at, refused_price, ledger}
-use Rattle.allocation_bound.specs.Settled.{Budgets, Outcome, IsSettled, multiplier_of, block_rate}
+use Rattle.allocation_bound.specs.Settled.{Budgets, AreBudgets, Outcome, IsSettled, multiplier_of, block_rate}
 use Rattle.allocation_bound.specs.Steps.{best, cost, gains, lens, scale}
 use Rattle.allocation_bound.specs.Sums.{upto, total}
 use Rattle.allocation_bound.proofs.Levels.{first_is, multiplier_open}
@@ -137,6 +137,7 @@ pub certified_frame : (limits : Limits) (blocks : ℕ) (inside : ℕ → Members
     (steps : ℕ → List Step) (counts : List ℕ) (done left : ℕ → List Step)
     (closed : List (Option Step))
     (numbers : List ℕ) (gap start : ℕ) (c : Certificate)
+    → AreBudgets (frame_budgets limits blocks inside held)
     → IsAllocated (frame_budgets limits blocks inside held) steps (so_far counts done left closed)
     numbers gap
     → upto blocks (λ b. lens (steps b)) < 2 ^ 32
@@ -149,7 +150,7 @@ pub certified_frame : (limits : Limits) (blocks : ℕ) (inside : ℕ → Members
     ++ refused_listed (λ k j. bytes_in (held k) j) counts numbers closed C2
     → IsCertificate (frame_budgets limits blocks inside held) steps counts done left start c
 certified_frame limits blocks inside held steps counts done left closed numbers gap start c
-    allocated bytes same same_gap distortion listed =
+    budgets allocated bytes same same_gap distortion listed =
     let w : Budgets = frame_budgets limits blocks inside held in
     let o : Outcome = so_far counts done left closed in
     let settled : IsSettled w steps o = allocated.settled in
@@ -174,6 +175,7 @@ certified_frame limits blocks inside held steps counts done left closed numbers 
     let prices : total (λ (r : RefusedStep). r.price) c.refused.items ≡ upto 5 (price_at w o) =
     ap (λ l. total (λ (r : RefusedStep). r.price) l) refused ∙ prices_are w o in
     record {
+      budgets = budgets;
       closed = closed;
       settled = settled;
       multipliers = λ j lt. same j lt ∙ allocated.multipliers j lt;

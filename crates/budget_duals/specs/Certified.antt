@@ -4,7 +4,7 @@ use Rattle.std.specs.Prelude.{None}
 use Rattle.rd_hulls.specs.declared.step.Step.{Step}
 use Rattle.allocation_bound.specs.Ledger.{IsGap, FitsBeside}
 use Rattle.allocation_bound.specs.Refused.{ledger, IsRefused}
-use Rattle.allocation_bound.specs.Settled.{Budgets, IsSettled, multiplier_of, block_rate}
+use Rattle.allocation_bound.specs.Settled.{Budgets, AreBudgets, IsSettled, multiplier_of, block_rate}
 use Rattle.allocation_bound.specs.Steps.{cost, gains, lens}
 use Rattle.allocation_bound.specs.Sums.{upto, total}
 use Rattle.budget_duals.specs.Frame.{AreLow, AreMembers, refused_steps}
@@ -37,6 +37,8 @@ pub record IsReady (limits : Limits) (highest counts : List ℕ) (inside : ℕ �
 -- left such of their steps.
 pub record IsCertificate (w : Budgets) (steps : ℕ → List Step) (counts : List ℕ)
     (done left : ℕ → List Step) (start : ℕ) (c : Certificate) : Type 0 where
+  -- the budgets are nested, and hold what the law of their price says
+  pub budgets : AreBudgets w
   -- Of each budget the step that closed it, if one did. Each budget is within its limit, and each
   -- block has taken the first of its steps.
   pub closed : List (Option Step)

@@ -1,14 +1,13 @@
 -- The tree has the budgets of the frame.
-use Rattle.std.proofs.Common.{ℕ, ◌≡◌, ◌+◌, ◌<◌, ◌≤◌, ◌^◌, List, [], ◌∷◌, ◌++◌, map, get_or}
+use Rattle.std.proofs.Common.{ℕ, ◌≡◌, ◌+◌, ◌<◌, ◌≤◌, ◌^◌, List, [], ◌∷◌, map, get_or}
 use Rattle.std.proofs.Common.{slice_index_or, Option, arith, sym, subst}
-use Rattle.cine_nums.specs.declared.budget.Budget.TheVariants.{Frame, Inner, C0, C1, C2}
 use Rattle.rd_hulls.specs.declared.step.Step.{Step}
 use Rattle.allocation_bound.specs.Settled.{Budgets, AreBudgets}
 use Rattle.allocation_bound.specs.Steps.{gains, lens}
 use Rattle.allocation_bound.specs.Sums.{upto}
 use Rattle.budget_duals.specs.Allocated.{IsAllocated}
 use Rattle.budget_duals.specs.Frame.{frame_budgets, AreMembers}
-use Rattle.budget_duals.specs.Listing.{refused_listed}
+use Rattle.budget_duals.specs.Listing.{refused_all}
 use Rattle.budget_duals.specs.Numbered.{bytes_in}
 use Rattle.budget_duals.specs.Price.{CanTake, HasLaw}
 use Rattle.budget_duals.specs.Walking.{so_far}
@@ -104,20 +103,20 @@ returns-clause-certified g c =
     (so_far counts done left closed) numbers gap =
     subst (λ (w : Budgets). IsAllocated w steps (so_far counts done left closed) numbers gap) same
     c.in_ok-duals.ensures.ok in
+    let law : HasLaw blocks inside held =
+    subst (λ n. HasLaw n inside held) (sym c.requires.blocks) (g.met.P.Price.has_law c.args.price.now) in
+    let are : (b : ℕ) → b < blocks → AreMembers limits.inner (inside b) =
+    λ b below. c.requires.ready.members b (subst (λ n. b < n) c.requires.blocks below) in
     let bytes : upto blocks (λ b. lens (steps b)) < 2 ^ 32 =
     subst (λ (n : ℕ). upto n (λ b. lens (steps b)) < 2 ^ 32) (sym c.requires.blocks)
     c.requires.ready.bytes in
     certified_frame limits blocks inside held steps counts done left closed numbers gap c.args.start
-    c.certificate_of.result all bytes
+    c.certificate_of.result (frame_are_budgets limits blocks inside held law are) all bytes
     c.certificate_of.ensures.multipliers c.certificate_of.ensures.gap
     (subst (λ (n : ℕ). c.certificate_of.result.distortion + upto n (λ b. gains (done b))
     ≡ c.args.start) c.in_ok-duals.ensures.blocks
     c.certificate_of.ensures.distortion)
     (subst (λ (h : List ℕ → Held). c.certificate_of.result.refused.items
-    ≡ refused_listed (λ k j. bytes_in (h k) j) counts numbers closed Frame
-    ++ refused_listed (λ k j. bytes_in (h k) j) counts numbers closed Inner
-    ++ refused_listed (λ k j. bytes_in (h k) j) counts numbers closed C0
-    ++ refused_listed (λ k j. bytes_in (h k) j) counts numbers closed C1
-    ++ refused_listed (λ k j. bytes_in (h k) j) counts numbers closed C2)
+    ≡ refused_all (λ k j. bytes_in (h k) j) counts numbers closed)
     (g.met.P.Price.same_held c.args.price.now c.allocate_over.new.held c.in_ok-duals.ensures.stays)
     c.certificate_of.ensures.refused)
