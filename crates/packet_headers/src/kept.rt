@@ -1,5 +1,5 @@
 // A packet whose header's length is kept.
-ghost use Rattle.std.specs.Prelude.{◌≡◌, ◌<◌, length};
+ghost use Rattle.std.specs.Prelude.{◌≡◌, ◌<◌, ◌≤◌, length};
 ghost use Rattle.packet_headers.specs.Written.{CanWrite};
 ghost use Rattle.packet_headers.specs.Kept.{header_length, with_entry, band_at, CanPut};
 
@@ -65,7 +65,8 @@ impl KeptPacket {
     /// of its bands.
     pub fn with(&self, band: u8, place: u8, entry: Entry) -> u32
         requires { CanPut self.now band place entry }
-        ensures { result ≡ header_length (with_entry self.now band place entry) }
+        ensures value { result ≡ header_length (with_entry self.now band place entry) }
+        ensures few { result ≤ 449 }
     {
         let mut packet = copy_of(&self.packet);
         put_entry(&mut packet, band, place, entry);
