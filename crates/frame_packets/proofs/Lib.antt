@@ -1,0 +1,9 @@
+pub mod Lists
+pub mod Places
+pub mod Packets
+pub mod Parts
+pub mod Bounds
+pub mod MainLength
+pub mod Frames
+pub mod Nothing
+pub mod Begun
