@@ -7,3 +7,4 @@ pub mod PlaneLemmas
 pub mod ReadsLemmas
 pub mod ChosenLemmas
 pub mod PlacesLemmas
+pub mod OnePixel

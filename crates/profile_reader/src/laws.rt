@@ -1,5 +1,11 @@
 // Laws of the definitions, for the crates above: a call of one of these functions, which do
 // nothing, gives the caller its clause.
+ghost use Rattle.std.specs.Prelude.{◌≡◌, [], ◌∷◌};
+ghost use Rattle.profile_reader.specs.OnePixel.{pixel, built_in_2k, plus, minus};
+ghost use Rattle.profile_reader.specs.OnePixel.{first_written, first_packet, bytes_of_64};
+ghost use Rattle.profile_reader.specs.OnePixel.{first_decoded, minus_cut, unknown_18};
+ghost use Rattle.profile_reader.specs.Packets.{written_packet};
+ghost use Rattle.profile_reader.specs.Spell.{spell};
 ghost use Rattle.profile_reader.specs.Shown.{ChosenReads, DecodesTo};
 ghost use Rattle.profile_reader.specs.Spelled.{SpelledReads};
 
@@ -31,3 +37,18 @@ pub fn chosen_reads()
     read_back();
     spelled_reads();
 }
+
+/// Frames of one pixel whose component 0 has one index that isn't 0: the whole codestream of the
+/// index 64 with 18 of its 19 passes (`index_64`), and the packets of the index 131,008 with 48
+/// passes (`index_131008`) and of the index -131,072 with 51 passes, whose header has a bit stuffed
+/// after FF (`index_131072`). With 9 passes of the index -64 its three lowest bit-planes are
+/// unknown, and of the blocks without passes all 18 bit-planes of their band (`decoded`).
+pub fn one_pixel()
+    ensures index_64 { spell pixel built_in_2k (first_written (plus 64) 18) ≡ bytes_of_64 }
+    ensures index_131008 { written_packet pixel built_in_2k (first_written (plus 131008) 48)
+        first_packet ≡ 0xDF ∷ 0xF8 ∷ 0xB0 ∷ 0x18 ∷ 0x00 ∷ 0xEA ∷ 0xC8 ∷ [] }
+    ensures index_131072 { written_packet pixel built_in_2k (first_written (minus 131072) 51)
+        first_packet ≡ 0xFF ∷ 0x78 ∷ 0xE0 ∷ 0x08 ∷ 0x07 ∷ [] }
+    ensures decoded { first_decoded (minus 64) 9 ≡
+        (minus_cut 8 3 ∷ []) ∷ (unknown_18 ∷ []) ∷ (unknown_18 ∷ []) ∷ [] }
+{}

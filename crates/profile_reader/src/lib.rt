@@ -19,4 +19,4 @@
 
 mod laws;
 
-pub use laws::{chosen_reads, spelled_reads};
+pub use laws::{chosen_reads, one_pixel, spelled_reads};
