@@ -8,7 +8,7 @@ use Rattle.band_geometry.specs.Bands.{IsBlock}
 use Rattle.band_geometry.specs.Numbering.{all_blocks}
 use Rattle.band_geometry.specs.declared.geometry.Geometry.{Geometry}
 use Rattle.band_geometry.specs.declared.places.BlockId.{BlockId}
-use Rattle.cinema_markers.specs.Words.{MainWords}
+use Rattle.cinema_markers.specs.Words.{written_words}
 use Rattle.codeblock_views.specs.declared.known.Known.{Known}
 use Rattle.dz_quantiser.specs.Bands.{band_planes}
 use Rattle.dz_quantiser.specs.declared.steps.StepSizes.{StepSizes}
@@ -18,29 +18,26 @@ use Rattle.profile_reader.specs.Reads.{stream_bytes, nothing_read, block_in, rea
 use Rattle.profile_reader.specs.Spell.{part_length, part_indexes, part_lengths, header_for, spell}
 use Rattle.profile_reader.specs.Spelled.{CanSpell, decoding_with, SpelledReads}
 use Rattle.profile_reader.specs.Words.{PartsFit}
-use Rattle.profile_reader.proofs.MainLemmas.{IsSpelledMain, spelled_main, few_band_planes}
+use Rattle.profile_reader.proofs.MainLemmas.{main_fits, main_spelled, few_band_planes}
 use Rattle.profile_reader.proofs.PacketLemmas.{whole_part, parts_written}
 use Rattle.profile_reader.proofs.PlaneLemmas.{Assembled, plane_again, plane_length}
 use Rattle.profile_reader.proofs.PlaneLemmas.{cells_again}
 use Rattle.profile_reader.proofs.SpelledLemmas.{parts_fit, parts_say, found_again}
 
 -- the codestream as it stands
-abbrev stream : (g : Geometry) (steps : StepSizes) (given : BlockId → BlockBytes) → MainWords →
-    Stream
-stream g steps given words = record {
+abbrev stream : (g : Geometry) (steps : StepSizes) (given : BlockId → BlockBytes) → Stream
+stream g steps given = record {
   main = header_for g steps (part_lengths g steps given);
   geometry = g;
-  words = words;
+  words = written_words (header_for g steps (part_lengths g steps given));
   parts = map (whole_part g steps given) (part_indexes g);
 }
 
-stream_fits : (g : Geometry) (steps : StepSizes) (given : BlockId → BlockBytes) (words : MainWords)
-    → CanSpell g steps given
-    → IsSpelledMain (header_for g steps (part_lengths g steps given)) words
-    → StreamFits (stream g steps given words)
-stream_fits g steps given words can is = record {
+stream_fits : (g : Geometry) (steps : StepSizes) (given : BlockId → BlockBytes) →
+    CanSpell g steps given → StreamFits (stream g steps given)
+stream_fits g steps given can = record {
   geometry = record { profile = refl; levels = refl; width = refl; height = refl };
-  main = is.fits;
+  main = main_fits g steps given can;
   few_planes = few_band_planes g.levels steps can.steps_usable;
   parts = subst (λ n. PartsFit g steps 0 n (part_lengths g steps given)
       (map (whole_part g steps given) (part_indexes g)))
@@ -48,12 +45,14 @@ stream_fits g steps given words can is = record {
       (parts_fit g steps given can (parts_of g.profile) 0);
 }
 
-stream_spelled : (g : Geometry) (steps : StepSizes) (given : BlockId → BlockBytes)
-    (words : MainWords) → IsSpelledMain (header_for g steps (part_lengths g steps given)) words →
-    spell g steps given ≡ stream_bytes (stream g steps given words)
+stream_spelled : (g : Geometry) (steps : StepSizes) (given : BlockId → BlockBytes) →
+    spell g steps given ≡ stream_bytes (stream g steps given)
 unfolding spell
-stream_spelled g steps given words is =
-    rw (is.bytes, parts_written g steps given (parts_of g.profile) 0) refl
+stream_spelled g steps given =
+    rw (
+      main_spelled (header_for g steps (part_lengths g steps given)),
+      parts_written g steps given (parts_of g.profile) 0,
+    ) refl
 
 block_means : Assembled → (g : Geometry) (steps : StepSizes) (given : BlockId → BlockBytes)
     (reads : BlockId → BlockRead) (cells : BlockId → List Known) (most : ℕ) (b : BlockId) →
@@ -73,11 +72,10 @@ block_means assembled g steps given reads cells most b is means =
 
 pub spelled_is_read : Assembled → SpelledReads
 spelled_is_read assembled g steps given reads cells can means =
-    let main = spelled_main g steps given can in
     record {
-      stream = stream g steps given main.0;
-      fits = stream_fits g steps given main.0 can main.1;
-      spelled = stream_spelled g steps given main.0 main.1;
+      stream = stream g steps given;
+      fits = stream_fits g steps given can;
+      spelled = stream_spelled g steps given;
       main = refl;
       blocks = map given (all_blocks g);
       count = length-map (all_blocks g) given;
