@@ -11,7 +11,8 @@ use Rattle.allocation_bound.specs.Budgets.{chain}
 use Rattle.allocation_bound.specs.Laws.{HasCertificate}
 use Rattle.allocation_bound.specs.Ledger.{IsGap}
 use Rattle.allocation_bound.specs.Refused.{grow, price, price_at, refused_price, ledger}
-use Rattle.allocation_bound.specs.Settled.{Budgets, AreBudgets, Outcome, IsSettled, multiplier_of, block_rate}
+use Rattle.allocation_bound.specs.Settled.{Budgets, AreBudgets, Outcome, IsSettled, multiplier_of}
+use Rattle.allocation_bound.specs.Settled.{block_rate}
 use Rattle.allocation_bound.specs.Steps.{best, cost, gains, lens, scale}
 use Rattle.allocation_bound.specs.Sums.{upto, total}
 use Rattle.allocation_bound.proofs.Levels.{first_is, multiplier_open}

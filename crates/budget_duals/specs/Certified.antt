@@ -4,7 +4,8 @@ use Rattle.std.specs.Prelude.{None}
 use Rattle.rd_hulls.specs.declared.step.Step.{Step}
 use Rattle.allocation_bound.specs.Ledger.{IsGap, FitsBeside}
 use Rattle.allocation_bound.specs.Refused.{ledger, IsRefused}
-use Rattle.allocation_bound.specs.Settled.{Budgets, AreBudgets, IsSettled, multiplier_of, block_rate}
+use Rattle.allocation_bound.specs.Settled.{Budgets, AreBudgets, IsSettled, multiplier_of}
+use Rattle.allocation_bound.specs.Settled.{block_rate}
 use Rattle.allocation_bound.specs.Steps.{cost, gains, lens}
 use Rattle.allocation_bound.specs.Sums.{upto, total}
 use Rattle.budget_duals.specs.Frame.{AreLow, AreMembers, refused_steps}

@@ -15,6 +15,8 @@ pub mod Numbered
 pub mod Offers
 pub mod Price
 pub mod Queue
+pub mod Shy
+pub mod ShyLaws
 pub mod Sums
 pub mod Tree
 pub mod TwoBlocks

@@ -1,11 +1,15 @@
 // Allocations worked by hand, and rows of worked examples.
-ghost use Rattle.std.specs.Prelude.{ℕ, ◌≡◌, ◌<◌, ◌∷◌, [], true, slice_index_or};
+ghost use Rattle.std.specs.Prelude.{ℕ, ◌≡◌, ◌<◌, ◌∷◌, [], true, length, slice_index_or};
 ghost use Rattle.std.specs.List.{AllByRecursion};
 ghost use Rattle.budget_duals.specs.Listed.{steps_of};
 ghost use Rattle.budget_duals.specs.TwoBlocks.{two_fits, two_held};
 
+use crate::shy::Shy;
 use crate::two_blocks::TwoBlocks;
-use crate::{AllocateRefusal, Certificate, Held, Limits, Members, RefusedStep, allocate};
+use crate::{
+    AllocateRefusal, Certificate, Held, Limits, ListedOffers, Members, RefusedStep, Slope,
+    allocate, allocate_offers,
+};
 use cine_nums::Budget;
 use rd_hulls::Step;
 use std::alloc::Global;
@@ -39,6 +43,50 @@ fn allocate_two(
     };
     match Vec::from_slice(alloc, steps) {
         Ok(steps) => allocate(alloc, start, steps, limits, &mut price),
+        Err(_) => Err(AllocateRefusal::Memory),
+    }
+}
+
+// The same where the first block offers a bound before its first step.
+fn allocate_shy(
+    alloc: Global,
+    limits: &Limits,
+    base: Held,
+    inside: (Members, Members),
+    bytes: ([u32; 4], [u32; 4]),
+    start: u128,
+    steps: &[Step],
+) -> Result<Certificate, AllocateRefusal>
+    requires blocks { AllByRecursion (λ s. s.block < 2) steps.now }
+    requires few { length steps.now < 100 }
+    requires fits { two_fits limits.now
+        (two_held base inside.0 inside.1 bytes.0 bytes.1 (0 ∷ 0 ∷ [])).inner
+        inside.0 inside.1 (steps_of 0 steps.now) (steps_of 1 steps.now) start ≡ true }
+{
+    let first_bytes = bytes.0;
+    let second_bytes = bytes.1;
+    let mut price = TwoBlocks {
+        base,
+        first_inside: inside.0,
+        second_inside: inside.1,
+        first_bytes,
+        second_bytes,
+        first: 0,
+        second: 0,
+    };
+    match ListedOffers::of_list(alloc, 2, steps) {
+        Ok(inner) => {
+            let top = Slope {
+                gain: 18_446_744_073_709_551_615,
+                len: 1,
+            };
+            let mut offers = Shy {
+                inner,
+                top,
+                shy: true,
+            };
+            allocate_offers(alloc, start, &mut offers, limits, &mut price)
+        }
         Err(_) => Err(AllocateRefusal::Memory),
     }
 }
@@ -463,4 +511,68 @@ fn closes_nested_budgets(rt: HostRuntime) {
     ];
     let multipliers = [34_359_738_368, 0, 0, 0, 0];
     assert!(rt; says(found, multipliers, 16, 64, &refused));
+}
+
+#[test]
+#[rattlefmt::skip]
+fn learns_more_of_blocks(rt: HostRuntime) {
+    // A block that bounds its first step gives the same choice.
+    let found = allocate_shy(
+        rt.alloc(),
+        &Limits { frame: 2, inner: None, component: [1_000_000, 1_000_000, 1_000_000] },
+        Held { frame: 0, inner: 0, component: [0, 0, 0] },
+        (
+            Members { inner: false, component: Some(0) },
+            Members { inner: false, component: Some(0) },
+        ),
+        ([0, 1, 0, 0], [0, 2, 0, 0]),
+        3,
+        &[
+            Step { block: 0, from: 0, to: 1, len: 1, gain: 1 },
+            Step { block: 1, from: 0, to: 1, len: 2, gain: 2 },
+        ],
+    );
+    let refused = [
+        RefusedStep {
+            budget: Budget::Frame,
+            step: Step { block: 1, from: 0, to: 1, len: 2, gain: 2 },
+            grow: 0,
+            price: 2,
+        },
+    ];
+    let multipliers = [4_294_967_296, 0, 0, 0, 0];
+    assert!(rt; says(found, multipliers, 1, 2, &refused));
+    let found = allocate_shy(
+        rt.alloc(),
+        &Limits { frame: 16, inner: Some(7), component: [1_000_000, 1_000_000, 1_000_000] },
+        Held { frame: 0, inner: 0, component: [0, 0, 0] },
+        (
+            Members { inner: true, component: Some(0) },
+            Members { inner: false, component: None },
+        ),
+        ([0, 5, 10, 0], [0, 8, 16, 0]),
+        114,
+        &[
+            Step { block: 0, from: 0, to: 1, len: 5, gain: 50 },
+            Step { block: 0, from: 1, to: 2, len: 5, gain: 40 },
+            Step { block: 1, from: 0, to: 1, len: 8, gain: 16 },
+            Step { block: 1, from: 1, to: 2, len: 8, gain: 8 },
+        ],
+    );
+    let refused = [
+        RefusedStep {
+            budget: Budget::Frame,
+            step: Step { block: 1, from: 1, to: 2, len: 8, gain: 8 },
+            grow: 0,
+            price: 8,
+        },
+        RefusedStep {
+            budget: Budget::Inner,
+            step: Step { block: 0, from: 1, to: 2, len: 5, gain: 40 },
+            grow: 0,
+            price: 40,
+        },
+    ];
+    let multipliers = [4_294_967_296, 30_064_771_072, 0, 0, 0];
+    assert!(rt; says(found, multipliers, 17, 48, &refused));
 }

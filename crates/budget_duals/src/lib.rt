@@ -33,6 +33,8 @@ mod price;
 mod price_holdings;
 mod queue;
 mod refused;
+#[cfg(test)]
+mod shy;
 mod sums;
 #[cfg(test)]
 mod tests;

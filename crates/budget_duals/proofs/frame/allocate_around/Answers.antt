@@ -104,7 +104,8 @@ returns-clause-certified g c =
     subst (λ (w : Budgets). IsAllocated w steps (so_far counts done left closed) numbers gap) same
     c.in_ok-duals.ensures.ok in
     let law : HasLaw blocks inside held =
-    subst (λ n. HasLaw n inside held) (sym c.requires.blocks) (g.met.P.Price.has_law c.args.price.now) in
+    subst (λ n. HasLaw n inside held) (sym c.requires.blocks)
+    (g.met.P.Price.has_law c.args.price.now) in
     let are : (b : ℕ) → b < blocks → AreMembers limits.inner (inside b) =
     λ b below. c.requires.ready.members b (subst (λ n. b < n) c.requires.blocks below) in
     let bytes : upto blocks (λ b. lens (steps b)) < 2 ^ 32 =
