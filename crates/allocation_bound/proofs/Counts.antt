@@ -56,7 +56,8 @@ best_of_all : (b : ℕ) (points : List Point) (m c : ℕ) (s : Step) → IsHullS
 best_of_all b points m c s h flat so_far k inside = elim
     (cases_lt (point_at points c).len (point_at points k).len) [
       | inl l ↦ (let longer : (point_at points c).len ≤ (point_at points k).len = omega arith in
-          right m s.len s.gain (point_at points c).len (point_at points c).dist (point_at points k).len
+          right m s.len s.gain (point_at points c).len (point_at points c).dist
+          (point_at points k).len
           (point_at points k).dist
           s.longer flat (h.line k inside) longer)
       | inr g ↦ so_far k inside g

@@ -1,6 +1,5 @@
 //! How far a choice of coding passes under nested byte budgets can be from the best one: the theory
-//! behind `budget_duals`, and behind whoever audits a certificate or adds a budget for a whole
-//! reel.
+//! of `budget_duals`, and of whoever audits a certificate or adds a budget for a whole reel.
 //!
 //! `specs/` has the definitions: costs of a block's steps at a multiplier (`Steps`), nested budgets
 //! and their multipliers (`Budgets`), the lower bound and the gap (`Ledger`), the state in which a
