@@ -7,3 +7,4 @@ pub mod MainLength
 pub mod Frames
 pub mod Nothing
 pub mod Begun
+pub mod Budgets

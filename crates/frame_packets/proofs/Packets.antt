@@ -42,14 +42,18 @@ pub band_is : (g : Geometry) (p : PacketId) (k : ℕ) (d : Orient) → IsAny g p
     k < length (orients_of p.res) → HasBand g p.res (get_or (orients_of p.res) k d)
 band_is g p k d is below = record { res = is.res; orient = orient_at p.res k d below }
 
--- ---- other packets
+-- ---- packets of whose blocks the same is written
 
-same_band : (g : Geometry) (steps : StepSizes) (id : BlockId) (entry : Entry)
-    (given changed : BlockId → BlockBytes) → IsChanged g id entry given changed →
+-- of the blocks of a packet the same is written
+abbrev pub AgreeIn : Geometry → PacketId → (BlockId → BlockBytes) → (BlockId → BlockBytes) → Type 0
+AgreeIn g p given changed =
+    (b : BlockId) → IsBlock g b → packet_of_block b ≡ p → changed b ≡ given b
+
+alike_band : (g : Geometry) (steps : StepSizes) (given changed : BlockId → BlockBytes)
     (p : PacketId) (o : Orient) → IsAny g p → HasBand g p.res o →
-    (packet_of_block id ≡ p → id.orient ≡ o → ⊥) →
+    ((b : BlockId) → IsBlock g b → packet_of_block b ≡ p → b.orient ≡ o → changed b ≡ given b) →
     band_with g steps changed p o ≡ band_with g steps given p o
-same_band g steps id entry given changed is p o any has other =
+alike_band g steps given changed p o any has agree =
     let range = precinct_blocks_of g p.res o p.px p.py in
     let made : List Entry → PacketBand = λ items. record {
       width = range.x1 - range.x0;
@@ -60,37 +64,55 @@ same_band g steps id entry given changed is p o any has other =
     ap made (map_agree (λ b. (given b).entry) (λ b. (changed b).entry) (blocks_in g p o)
     (λ k d below.
     let there = all_in_band g p o any.component has k d below in
-    ap (λ w. w.entry) (is.others (get_or (blocks_in g p o) k d) there.of_packet.block
-    (λ same. other (sym (ap packet_of_block same) ∙ there.of_packet.packet)
-    (sym (ap (λ b. b.orient) same) ∙ there.orient)))))
+    ap (λ w. w.entry) (agree (get_or (blocks_in g p o) k d) there.of_packet.block
+    there.of_packet.packet there.orient)))
 
-pub same_packet : (g : Geometry) (steps : StepSizes) (id : BlockId) (entry : Entry)
-    (given changed : BlockId → BlockBytes) → IsChanged g id entry given changed →
-    (p : PacketId) → IsAny g p → (packet_of_block id ≡ p → ⊥) →
+pub alike_packet : (g : Geometry) (steps : StepSizes) (given changed : BlockId → BlockBytes)
+    (p : PacketId) → IsAny g p → AgreeIn g p given changed →
     packet_with g steps changed p ≡ packet_with g steps given p
 unfolding packet_with
-same_packet g steps id entry given changed is p any other =
+alike_packet g steps given changed p any agree =
     ap (λ (items : List PacketBand). record { bands = record { items = items } })
     (map_agree (band_with g steps given p) (band_with g steps changed p) (orients_of p.res)
-    (λ k d below. same_band g steps id entry given changed is p (get_or (orients_of p.res) k d) any
-    (band_is g p k d any below) (λ same orient. other same)))
+    (λ k d below. alike_band g steps given changed p (get_or (orients_of p.res) k d) any
+    (band_is g p k d any below) (λ b block packet orient. agree b block packet)))
 
-pub same_written : (g : Geometry) (steps : StepSizes) (id : BlockId) (entry : Entry)
-    (given changed : BlockId → BlockBytes) → IsChanged g id entry given changed →
-    (p : PacketId) → IsAny g p → (packet_of_block id ≡ p → ⊥) →
+pub alike_written : (g : Geometry) (steps : StepSizes) (given changed : BlockId → BlockBytes)
+    (p : PacketId) → IsAny g p → AgreeIn g p given changed →
     written_packet g steps changed p ≡ written_packet g steps given p
 unfolding written_packet
-same_written g steps id entry given changed is p any other =
+alike_written g steps given changed p any agree =
     let codes : flat_map (λ b. (changed b).code) (blocks_of_packet g p)
     ≡ flat_map (λ b. (given b).code) (blocks_of_packet g p) =
     flat_agree (λ b. (given b).code) (λ b. (changed b).code) (blocks_of_packet g p)
     (λ k d below.
     let there = all_in_packet g p any.component any.res k d below in
-    ap (λ w. w.code) (is.others (get_or (blocks_of_packet g p) k d) there.block
-    (λ same. other (sym (ap packet_of_block same) ∙ there.packet)))) in
+    ap (λ w. w.code) (agree (get_or (blocks_of_packet g p) k d) there.block there.packet)) in
     ap (λ q. packed (written_bits q) ++ flat_map (λ b. (changed b).code) (blocks_of_packet g p))
-    (same_packet g steps id entry given changed is p any other)
+    (alike_packet g steps given changed p any agree)
     ∙ ap (λ bytes. packed (written_bits (packet_with g steps given p)) ++ bytes) codes
+
+-- ---- other packets than that of the block
+
+beside : (g : Geometry) (id : BlockId) (entry : Entry) (given changed : BlockId → BlockBytes) →
+    IsChanged g id entry given changed → (p : PacketId) → (packet_of_block id ≡ p → ⊥) →
+    AgreeIn g p given changed
+beside g id entry given changed is p other b block packet =
+    is.others b block (λ same. other (sym (ap packet_of_block same) ∙ packet))
+
+pub same_packet : (g : Geometry) (steps : StepSizes) (id : BlockId) (entry : Entry)
+    (given changed : BlockId → BlockBytes) → IsChanged g id entry given changed →
+    (p : PacketId) → IsAny g p → (packet_of_block id ≡ p → ⊥) →
+    packet_with g steps changed p ≡ packet_with g steps given p
+same_packet g steps id entry given changed is p any other =
+    alike_packet g steps given changed p any (beside g id entry given changed is p other)
+
+pub same_written : (g : Geometry) (steps : StepSizes) (id : BlockId) (entry : Entry)
+    (given changed : BlockId → BlockBytes) → IsChanged g id entry given changed →
+    (p : PacketId) → IsAny g p → (packet_of_block id ≡ p → ⊥) →
+    written_packet g steps changed p ≡ written_packet g steps given p
+same_written g steps id entry given changed is p any other =
+    alike_written g steps given changed p any (beside g id entry given changed is p other)
 
 -- ---- the blocks of a band differ
 
@@ -227,9 +249,10 @@ changed_packet g steps id entry given changed block is =
     =
     map_changed (band_with g steps given p) (band_with g steps changed p) bands n o within
     (λ k d below other.
-    same_band g steps id entry given changed is p (get_or bands k d) (packet_is g id block)
-    (band_is g p k d (packet_is g id block) below)
-    (λ same orient. other (sym (place_of_orient id.res k d below) ∙ sym (ap band_place orient)))) in
+    alike_band g steps given changed p (get_or bands k d) (packet_is g id block)
+    (band_is g p k d (packet_is g id block) below) (λ b there packet orient.
+    is.others b there (λ same. other (sym (place_of_orient id.res k d below)
+    ∙ ap band_place (sym orient ∙ ap (λ c. c.orient) same))))) in
     let band : band_with g steps changed p (get_or bands n o)
     ≡ band_having (band_at (packet_with g steps given p) n) (place_in g id) entry =
     ap (band_with g steps changed p) (orient_placed id.res o o block.band.orient)

@@ -1,5 +1,5 @@
 // Where the entry of a code-block stands.
-ghost use Rattle.std.specs.Prelude.{◌≡◌, ◌<◌};
+ghost use Rattle.std.specs.Prelude.{◌≡◌};
 ghost use Rattle.band_geometry.specs.Bands.{IsBlock};
 ghost use Rattle.packet_order.specs.Blocks.{packet_of_block};
 ghost use Rattle.frame_packets.specs.Inside.{band_place, place_in};
