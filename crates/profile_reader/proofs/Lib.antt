@@ -8,3 +8,4 @@ pub mod ReadsLemmas
 pub mod ChosenLemmas
 pub mod PlacesLemmas
 pub mod OnePixel
+pub mod SmallFrames

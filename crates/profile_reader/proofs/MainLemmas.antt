@@ -57,7 +57,7 @@ pub main_fits : (g : Geometry) (steps : StepSizes) (given : BlockId → BlockByt
     (written_words (header_for g steps (part_lengths g steps given)))
 main_fits g steps given can =
     written_fits (header_for g steps (part_lengths g steps given))
-        (can_write_main g steps given can)
+    (can_write_main g steps given can)
     (All-weaker (IsTaken steps.guard) (λ (step : BandStep). 1 ≤ planes_of steps.guard step.exponent)
     (λ step is. is.1.planes_low) steps.bands.items (all_taken g.levels steps can.steps_usable))
 

@@ -11,5 +11,6 @@ pub mod Reads
 -- What a codestream that is spelled is read as, and one of a choice of coding passes.
 pub mod Spelled
 pub mod Shown
--- Codestreams of one pixel, byte by byte.
+-- Codestreams of small frames, byte by byte.
 pub mod OnePixel
+pub mod SmallFrames

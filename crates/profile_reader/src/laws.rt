@@ -1,12 +1,16 @@
 // Laws of the definitions, for the crates above: a call of one of these functions, which do
 // nothing, gives the caller its clause.
 ghost use Rattle.std.specs.Prelude.{◌≡◌, [], ◌∷◌};
-ghost use Rattle.profile_reader.specs.OnePixel.{pixel, built_in_2k, plus, minus};
-ghost use Rattle.profile_reader.specs.OnePixel.{first_written, first_packet, bytes_of_64};
+ghost use Rattle.profile_reader.specs.Chosen.{chosen};
 ghost use Rattle.profile_reader.specs.OnePixel.{first_decoded, minus_cut, unknown_18};
+ghost use Rattle.profile_reader.specs.OnePixel.{first_written, first_packet, bytes_of_64};
+ghost use Rattle.profile_reader.specs.OnePixel.{pixel, built_in_2k, plus, minus};
 ghost use Rattle.profile_reader.specs.Packets.{written_packet};
-ghost use Rattle.profile_reader.specs.Spell.{spell};
 ghost use Rattle.profile_reader.specs.Shown.{ChosenReads, DecodesTo};
+ghost use Rattle.profile_reader.specs.SmallFrames.{small_2k, small_4k, built_in_4k};
+ghost use Rattle.profile_reader.specs.SmallFrames.{small_bytes_2k, small_bytes_4k};
+ghost use Rattle.profile_reader.specs.SmallFrames.{small_planes, small_choice};
+ghost use Rattle.profile_reader.specs.Spell.{spell};
 ghost use Rattle.profile_reader.specs.Spelled.{SpelledReads};
 
 use codeblock_views::assembled;
@@ -51,4 +55,13 @@ pub fn one_pixel()
         first_packet ≡ 0xFF ∷ 0x78 ∷ 0xE0 ∷ 0x08 ∷ 0x07 ∷ [] }
     ensures decoded { first_decoded (minus 64) 9 ≡
         (minus_cut 8 3 ∷ []) ∷ (unknown_18 ∷ []) ∷ (unknown_18 ∷ []) ∷ [] }
+{}
+
+/// The whole codestreams of frames of 3 by 2 places in both profiles, with five code-blocks of each
+/// component, of which some have all their passes, some a part of them and some none.
+pub fn small_frames()
+    ensures two_k { spell small_2k built_in_2k
+        (chosen small_2k built_in_2k small_planes small_choice) ≡ small_bytes_2k }
+    ensures four_k { spell small_4k built_in_4k
+        (chosen small_4k built_in_4k small_planes small_choice) ≡ small_bytes_4k }
 {}

@@ -13,10 +13,10 @@
 //! The law [`spelled_reads`] says that what is spelled of code-blocks that mean cells is read as
 //! these cells, and the law [`chosen_reads`] that the codestream of a choice of coding passes is
 //! read as the frame's coefficients, each without the bit-planes that the chosen passes of its
-//! code-block leave unknown. The laws do nothing; their contracts say what holds of the
-//! definitions.
+//! code-block leave unknown. The laws [`one_pixel`] and [`small_frames`] have codestreams of small
+//! frames byte by byte. The laws do nothing; their contracts say what holds of the definitions.
 #![tactic(auto)]
 
 mod laws;
 
-pub use laws::{chosen_reads, one_pixel, spelled_reads};
+pub use laws::{chosen_reads, one_pixel, small_frames, spelled_reads};
