@@ -9,3 +9,5 @@ pub mod ChosenLemmas
 pub mod PlacesLemmas
 pub mod OnePixel
 pub mod SmallFrames
+pub mod OnceLemmas
+pub mod MeansLemmas

@@ -13,7 +13,8 @@ use Rattle.dz_quantiser.specs.Bands.{band_planes, AreUsable}
 use Rattle.dz_quantiser.specs.declared.steps.StepSizes.{StepSizes}
 use Rattle.packet_headers.specs.Written.{CanWriteEntry, IsPlain}
 use Rattle.profile_reader.specs.Packets.{BlockBytes}
-use Rattle.profile_reader.specs.Reads.{BlockRead, Decoding, BlockMeans, Reads}
+use Rattle.profile_reader.specs.Reads.{BlockRead, Decoding, BlockMeans, Reads, Stream, StreamFits}
+use Rattle.profile_reader.specs.Reads.{block_in, PartsSay}
 use Rattle.profile_reader.specs.Spell.{part_lengths, header_for, spell}
 
 -- what is written of a code-block can be written, in a band of so many magnitude bit-planes
@@ -52,3 +53,19 @@ SpelledReads =
     ((b : BlockId) → IsBlock g b →
     BlockMeans g (band_planes steps b.res b.orient) b (given b) (reads b) (cells b)) →
     Reads (spell g steps given) (decoding_with g steps given reads cells)
+
+-- Each code-block of the frame is said once: two lists of what is written of the blocks, both as
+-- the packets of a codestream say, agree in each block.
+abbrev pub SaidOnce : Type 0
+SaidOnce =
+    (s : Stream) (blocks others : List BlockBytes) → StreamFits s →
+    PartsSay s.geometry blocks 0 s.parts → PartsSay s.geometry others 0 s.parts →
+    (b : BlockId) → IsBlock s.geometry b → block_in s.geometry blocks b
+        ≡ block_in s.geometry others b
+
+-- What is written of a block means one thing.
+abbrev pub MeansOnce : Type 0
+MeansOnce =
+    (g : Geometry) (band_planes : ℕ) (b : BlockId) (written : BlockBytes) (read other : BlockRead)
+    (cells other_cells : List Known) → BlockMeans g band_planes b written read cells →
+    BlockMeans g band_planes b written other other_cells → (read ≡ other) × (cells ≡ other_cells)

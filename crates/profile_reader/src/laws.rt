@@ -11,10 +11,10 @@ ghost use Rattle.profile_reader.specs.SmallFrames.{small_2k, small_4k, built_in_
 ghost use Rattle.profile_reader.specs.SmallFrames.{small_bytes_2k, small_bytes_4k};
 ghost use Rattle.profile_reader.specs.SmallFrames.{small_planes, small_choice};
 ghost use Rattle.profile_reader.specs.Spell.{spell};
-ghost use Rattle.profile_reader.specs.Spelled.{SpelledReads};
+ghost use Rattle.profile_reader.specs.Spelled.{SpelledReads, SaidOnce, MeansOnce};
 
 use codeblock_views::assembled;
-use ebcot_contexts::{few_symbols, meaning_holds, read_back};
+use ebcot_contexts::{few_symbols, meaning_holds, one_meaning, read_back};
 use mq_coder::{code_form, few_bytes};
 
 /// What is spelled of code-blocks whose bytes mean cells is read as these cells: with the main
@@ -40,6 +40,15 @@ pub fn chosen_reads()
     meaning_holds();
     read_back();
     spelled_reads();
+}
+
+/// Each code-block of the frame is said once in a codestream: its packets leave no choice of its
+/// entry and of its bytes (`said`), and these mean one thing (`means`).
+pub fn said_once()
+    ensures said { SaidOnce }
+    ensures means { MeansOnce }
+{
+    one_meaning();
 }
 
 /// Frames of one pixel whose component 0 has one index that isn't 0: the whole codestream of the

@@ -19,4 +19,4 @@
 
 mod laws;
 
-pub use laws::{chosen_reads, one_pixel, small_frames, spelled_reads};
+pub use laws::{chosen_reads, one_pixel, said_once, small_frames, spelled_reads};
