@@ -23,7 +23,7 @@ use Rattle.profile_reader.specs.Spelled.{IsWritable, CanSpell}
 use Rattle.profile_reader.proofs.StepLemmas.{few_planes}
 
 -- what holds of each band of a resolution holds of those of its packets
-all_orients : (P : Orient → Type 0) (r : ℕ) → ((o : Orient) → IsOrientAt r o → P o) →
+pub all_orients : (P : Orient → Type 0) (r : ℕ) → ((o : Orient) → IsOrientAt r o → P o) →
     All P (orients_of r)
 all_orients P zero each = All-cons P LL [] (each LL refl) (All-nil P)
 all_orients P (suc r) each =

@@ -11,3 +11,4 @@ pub mod OnePixel
 pub mod SmallFrames
 pub mod OnceLemmas
 pub mod MeansLemmas
+pub mod DecodingLemmas

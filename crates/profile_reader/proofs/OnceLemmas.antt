@@ -57,9 +57,12 @@ unfolding PacketsSay SayBoth
 in_packets g blocks others [] [] p i says also within is = absurd (omega (arith, within))
 in_packets g blocks others [] (w ∷ ws) p i says also within is = absurd (omega (arith, within))
 in_packets g blocks others (q ∷ ps) [] p i says also within is = absurd says
-in_packets g blocks others (q ∷ ps) (w ∷ ws) p zero says also within is =
-    (w, subst (λ a. PacketSays g blocks a w) is says.0, subst (λ a. PacketSays g others a w) is
-        also.0)
+in_packets g blocks others (q ∷ ps) (w ∷ ws) p zero says also within is = (
+  w,
+  subst (λ a. PacketSays g blocks a w) is says.0,
+  subst (λ a. PacketSays g others a w) is
+      also.0,
+)
 in_packets g blocks others (q ∷ ps) (w ∷ ws) p (suc i) says also within is =
     in_packets g blocks others ps ws p i says.1 also.1 (omega (arith, within)) is
 
@@ -110,7 +113,7 @@ said_once s blocks others fits says also b is =
     ∙ fits.main.parts ∙ ap parts_of (sym fits.geometry.profile) in
     let below : part < length s.parts =
     subst (λ n. part < n) (sym count) (few_parts g.profile g.levels b.component b.res is.component)
-        in
+    in
     let of_part = in_parts g blocks others 0 part part s.parts says also below (omega arith) in
     let there = packets_are_ordered g part p (has_packet g b is) in
     same_block g blocks others b is

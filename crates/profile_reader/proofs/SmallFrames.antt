@@ -5,7 +5,8 @@ use Rattle.bit_stuffing.specs.Bits.{number, value_from}
 use Rattle.bit_stuffing.specs.Stuffing.{packed_from}
 use Rattle.cinema_markers.specs.MainHeader.{main_header_of}
 use Rattle.codeblock_views.specs.Rectangles.{cells_in}
-use Rattle.ebcot_contexts.specs.Contexts.{hh_context, lh_context, context_at, sign_at, is_quiet, refinement_at}
+use Rattle.ebcot_contexts.specs.Contexts.{hh_context, lh_context, context_at, sign_at, is_quiet}
+use Rattle.ebcot_contexts.specs.Contexts.{refinement_at}
 use Rattle.ebcot_contexts.specs.Passes.{sign_asked, after_bit, place, visit, run, four, scan, pass}
 use Rattle.ebcot_contexts.specs.Passes.{block}
 use Rattle.mq_coder.specs.Code.{start_coding, byte_out, shift, renormalise, code_mps, code_lps}

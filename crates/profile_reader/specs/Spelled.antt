@@ -61,7 +61,7 @@ SaidOnce =
     (s : Stream) (blocks others : List BlockBytes) → StreamFits s →
     PartsSay s.geometry blocks 0 s.parts → PartsSay s.geometry others 0 s.parts →
     (b : BlockId) → IsBlock s.geometry b → block_in s.geometry blocks b
-        ≡ block_in s.geometry others b
+    ≡ block_in s.geometry others b
 
 -- What is written of a block means one thing.
 abbrev pub MeansOnce : Type 0
@@ -69,3 +69,9 @@ MeansOnce =
     (g : Geometry) (band_planes : ℕ) (b : BlockId) (written : BlockBytes) (read other : BlockRead)
     (cells other_cells : List Known) → BlockMeans g band_planes b written read cells →
     BlockMeans g band_planes b written other other_cells → (read ≡ other) × (cells ≡ other_cells)
+
+-- By the same words codestreams have one decoding.
+abbrev pub OneDecoding : Type 0
+OneDecoding =
+    (bytes others : List ℕ) (d e : Decoding) (reads : Reads bytes d) (also : Reads others e) →
+    reads.stream ≡ also.stream → d ≡ e

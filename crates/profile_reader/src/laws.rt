@@ -11,7 +11,7 @@ ghost use Rattle.profile_reader.specs.SmallFrames.{small_2k, small_4k, built_in_
 ghost use Rattle.profile_reader.specs.SmallFrames.{small_bytes_2k, small_bytes_4k};
 ghost use Rattle.profile_reader.specs.SmallFrames.{small_planes, small_choice};
 ghost use Rattle.profile_reader.specs.Spell.{spell};
-ghost use Rattle.profile_reader.specs.Spelled.{SpelledReads, SaidOnce, MeansOnce};
+ghost use Rattle.profile_reader.specs.Spelled.{SpelledReads, SaidOnce, MeansOnce, OneDecoding};
 
 use codeblock_views::assembled;
 use ebcot_contexts::{few_symbols, meaning_holds, one_meaning, read_back};
@@ -43,10 +43,12 @@ pub fn chosen_reads()
 }
 
 /// Each code-block of the frame is said once in a codestream: its packets leave no choice of its
-/// entry and of its bytes (`said`), and these mean one thing (`means`).
+/// entry and of its bytes (`said`), and these mean one thing (`means`). So by the same words
+/// codestreams have one decoding (`decoding`).
 pub fn said_once()
     ensures said { SaidOnce }
     ensures means { MeansOnce }
+    ensures decoding { OneDecoding }
 {
     one_meaning();
 }

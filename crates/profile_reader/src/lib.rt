@@ -13,7 +13,8 @@
 //! The law [`spelled_reads`] says that what is spelled of code-blocks that mean cells is read as
 //! these cells, and the law [`chosen_reads`] that the codestream of a choice of coding passes is
 //! read as the frame's coefficients, each without the bit-planes that the chosen passes of its
-//! code-block leave unknown. The laws [`one_pixel`] and [`small_frames`] have codestreams of small
+//! code-block leave unknown. The law [`said_once`] says that the words of a codestream leave no
+//! choice of what is decoded. The laws [`one_pixel`] and [`small_frames`] have codestreams of small
 //! frames byte by byte. The laws do nothing; their contracts say what holds of the definitions.
 #![tactic(auto)]
 
