@@ -1,0 +1,12 @@
+pub mod Blocks
+pub mod ColumnTrees
+pub mod Decoding
+pub mod Firsts
+pub mod Grids
+pub mod Outcomes
+pub mod Places
+pub mod RunTrees
+pub mod Scans
+pub mod Settling
+pub mod Showing
+pub mod Zeros

@@ -1,0 +1,4 @@
+pub mod Columns
+pub mod Reading
+pub mod Results
+pub mod Runs
