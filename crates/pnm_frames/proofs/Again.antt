@@ -151,7 +151,7 @@ pub frame-again : (limits : SizeLimits) (p : Picture) (bytes : List ℕ) → Fit
 frame-again limits p bytes fits spelled =
     let parts = spelled.0 in
     let head = parts-again limits p.width p.height parts.end parts.gap1 parts.width parts.gap2
-        parts.height parts.gap3 parts.maxval (raster p)
+    parts.height parts.gap3 parts.maxval (raster p)
     fits.has_width fits.width fits.has_height fits.height spelled.1 in
     let y : length p.y ≡ length p.x = fits.y.size ∙ sym fits.x.size in
     let z : length p.z ≡ length p.x = fits.z.size ∙ sym fits.x.size in

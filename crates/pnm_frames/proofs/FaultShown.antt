@@ -284,7 +284,7 @@ open-stops : (limits : SizeLimits) (prefix rest : List ℕ) (fault : FrameFault)
 open-stops limits prefix rest fault so_far room stops =
     header-fault limits (prefix ++ rest) fault
     (open-parts limits so_far.numbers so_far.before so_far.gap so_far.digits prefix rest fault
-        so_far.few so_far.begins so_far.is_gap so_far.ascii so_far.whole room stops)
+    so_far.few so_far.begins so_far.is_gap so_far.ascii so_far.whole room stops)
 
 range-shown : (limits : SizeLimits) (k : ℕ) (bytes : List ℕ) → k < 3 → IsOutOfRange limits k bytes →
     frame_of limits bytes ≡ Err (range_fault k)
@@ -382,9 +382,9 @@ header-read limits prefix rest has =
     let parts = has.parts in
     let left : List ℕ = flat_map pair_bytes has.samples ++ rest in
     let head = parts-again limits has.width has.height parts.end parts.gap1 parts.width parts.gap2
-        parts.height parts.gap3 parts.maxval left
+    parts.height parts.gap3 parts.maxval left
     has.within.some_width has.within.width_in_limits has.within.some_height
-        has.within.height_in_limits has.is_header in
+    has.within.height_in_limits has.is_header in
     let same : prefix ++ rest ≡ header parts ++ left = ap (λ (t : List ℕ). t ++ rest) has.whole
     ∙ append_assoc (header parts) (flat_map pair_bytes has.samples) rest in
     let len : length prefix ≡ length (header parts) + length (flat_map pair_bytes has.samples) =

@@ -175,7 +175,7 @@ digits-told limits k n at before gap digits (b ∷ bytes) e few begins is_gap as
       | inr late ↦
           told limits (prefix ++ (b ∷ bytes)) HeaderTooLong e (fault-is HeaderTooLong e late.1)
           (open-late limits prefix (b ∷ bytes) at so_far len room
-              (ltb-false at header_limit late.0))
+          (ltb-false at header_limit late.0))
       | inl early ↦
           let lt : at < header_limit = ltb-true at header_limit early.0 in
           elim (chosen (is_white b) (Ok (n, suc at, bytes)) inner (Err e) early.1) [
@@ -577,7 +577,7 @@ samples-told limits prefix read (suc n) at (high ∷ low ∷ bytes) e all len h 
             omega (arith, all, length-append read.samples (pair ∷ [])) in
             let more = one-more limits prefix read pair (leb-true (256 * high + low) 4095 fits.0) in
             subst (λ (t : List ℕ). HasFault limits t e)
-                (append_assoc prefix (pair_bytes pair) bytes)
+            (append_assoc prefix (pair_bytes pair) bytes)
             (samples-told limits (prefix ++ pair_bytes pair) more n (suc (suc at)) bytes e count
             (omega (arith, len, length-append prefix (pair_bytes pair))) stops)
       ]

@@ -54,5 +54,13 @@ pub frame-read : (limits : SizeLimits) (bytes : List ℕ) (p : Picture) (w h at 
     → length p.y ≡ length p.x → length p.z ≡ length p.x → frame_of limits bytes ≡ Ok p
 unfolding frame_of
 frame-read limits bytes p w h at prefix rest wide tall head samples last y z =
-    rw (head, samples, plane-x p.x p.y p.z y z, plane-y p.x p.y p.z y z, plane-z p.x p.y p.z y z, ←
-        wide, ← tall) (ended-all empty empty p rest last)
+    rw (
+      head,
+      samples,
+      plane-x p.x p.y p.z y z,
+      plane-y p.x p.y p.z y z,
+      plane-z p.x p.y p.z y z,
+      ←
+          wide,
+      ← tall,
+    ) (ended-all empty empty p rest last)

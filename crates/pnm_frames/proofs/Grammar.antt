@@ -415,7 +415,7 @@ header-found limits bytes read e =
     let maxval = ranged-found 4095 4095 c.0.1 c.0.2 m.0 d.0 d.1
     (some-of WrongMaxval d.0.0 m.0 m.1) in
     put magic.gap w.0 h.0 m.0 a.0.1 b.0.1 c.0.1 d.0.1 a.0.2 b.0.2 c.0.2 d.0.2 bytes read magic.white
-        magic.parts magic.place width.0 height.0 maxval.0
+    magic.parts magic.place width.0 height.0 maxval.0
     (omega (arith, maxval.1, maxval.2))
     (record {
       some_width = width.1;

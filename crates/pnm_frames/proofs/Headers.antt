@@ -192,7 +192,7 @@ pub ranged-read : (low high at : ℕ) (bytes : List ℕ) (first place : ℕ) (be
 ranged-read low high at bytes first place behind m next rest small white digit read =
     let number = capped-ok (digits_at (first - 48) place behind) m next rest read in
     let one = ranged-is low high at bytes first place behind number.0 next rest white digit number.1
-        in
+    in
     one ∙ ap (λ (o : Option ℕ). answer o next rest)
     (within-capped low high number.0 small ∙ ap (within low high) (sym number.2))
   where

@@ -66,8 +66,11 @@ number_at at bytes = do
 unfoldable pub ranged_at : ℕ → ℕ → ℕ → List ℕ → Read (Option ℕ)
 ranged_at low high at bytes = do
   number ← number_at at bytes
-  Ok ((if nat_le low number.0 && nat_le number.0 high then Some number.0 else None), number.1,
-      number.2)
+  Ok (
+    (if nat_le low number.0 && nat_le number.0 high then Some number.0 else None),
+    number.1,
+    number.2,
+  )
 
 abbrev pub or_fault : {A : Type 0} → FrameFault → Option A → Result A FrameFault
 or_fault fault None = Err fault

@@ -22,7 +22,7 @@ returns-then-not-is_ascii_digit-clause-reads g c = λ told.
 pub returns-in_err-n-clause-reads : goal.returns-in_err-n-clause-reads
 returns-in_err-n-clause-reads g c =
     let p = err_from_is_err_and c.from_residual-in_err-n.result c.from_residual-in_err-n.ensures.1
-        in
+    in
     let left = (g.F.Frames.reading c.args.f.now).left in
     rw (p.1, p.2) (λ told.
     fails-on c.in_err-n.field-0.0 (capped

@@ -24,7 +24,7 @@ returns-in_err-frame-clause-keeps g c =
 pub returns-in_err-frame-clause-exact : goal.returns-in_err-frame-clause-exact
 returns-in_err-frame-clause-exact g c =
     let p = err_from_is_err_and c.from_residual-in_err-frame.result
-        c.from_residual-in_err-frame.ensures.1 in
+    c.from_residual-in_err-frame.ensures.1 in
     let left = (g.F.Frames.reading c.args.f.now).left in
     let prefix = (g.F.Frames.reading c.read_header.new.f).left in
     let header = c.in_ok-header.header in
@@ -39,12 +39,12 @@ pub returns-in_err-expect_end-clause-keeps : goal.returns-in_err-expect_end-clau
 returns-in_err-expect_end-clause-keeps g c =
     keeps-then _ _ _ _ _ _
     (keeps-then _ _ _ _ _ _ c.read_header.ensures.keeps c.read_raster.ensures.keeps)
-        c.expect_end.ensures.keeps
+    c.expect_end.ensures.keeps
 
 pub returns-in_err-expect_end-clause-exact : goal.returns-in_err-expect_end-clause-exact
 returns-in_err-expect_end-clause-exact g c =
     let p = err_from_is_err_and c.from_residual-in_err-expect_end.result
-        c.from_residual-in_err-expect_end.ensures.1 in
+    c.from_residual-in_err-expect_end.ensures.1 in
     let left = (g.F.Frames.reading c.args.f.now).left in
     let prefix = (g.F.Frames.reading c.read_header.new.f).left in
     let rest = (g.F.Frames.reading c.read_raster.new.f).left in
@@ -63,7 +63,7 @@ pub returns-clause-keeps : goal.returns-clause-keeps
 returns-clause-keeps g c =
     keeps-then _ _ _ _ _ _
     (keeps-then _ _ _ _ _ _ c.read_header.ensures.keeps c.read_raster.ensures.keeps)
-        c.expect_end.ensures.keeps
+    c.expect_end.ensures.keeps
 
 pub returns-clause-exact : goal.returns-clause-exact
 returns-clause-exact g c = λ told.
@@ -98,6 +98,6 @@ returns-clause-found g c = λ told.
           (g.F.Frames.reading c.read_header.new.f).left
           (g.F.Frames.reading c.read_raster.new.f).left
           (c.in_ok-header.ensures.reads told) c.in_ok-frame.ensures.width
-              c.in_ok-frame.ensures.height (c.in_ok-frame.ensures.spelled told1)
+          c.in_ok-frame.ensures.height (c.in_ok-frame.ensures.spelled told1)
           (c.in_ok-expect_end.ensures.reads (told-on _ _ c.read_raster.ensures.keeps.source told1)),
     )
