@@ -61,7 +61,7 @@ right_at order suffix (file ∷ files) zero name bytes visit p q right =
       subst (λ (n : List ℕ). RightFor order suffix n
           (frame_of (sizes_of order.profile) file.bytes) visit) (sym same_name)
           (subst (λ (b : List ℕ). RightFor order suffix name (frame_of (sizes_of order.profile) b)
-              visit)
+          visit)
           (sym same_bytes) right),
     )
 right_at order suffix (file ∷ files) (suc i) name bytes visit p q right =

@@ -16,7 +16,7 @@ use Rattle.packet_headers.specs.Written.{band_has_any, has_any, written_bits}
 use Rattle.bit_stuffing.specs.Bits.{value_from}
 use Rattle.bit_stuffing.specs.Stuffing.{packed, packed_from}
 use Rattle.profile_reader.specs.Packets.{band_with, packet_with, written_packet, written_body}
-use Rattle.frame_encoder.specs.Empty.{nothing}
+use Rattle.frame_packets.specs.Keeps.{nothing}
 
 none_included : (blocks : List BlockId) →
     list_any (λ (entry : Entry). entry.included) (map (λ b. (nothing b).entry) blocks) ≡ false

@@ -1,8 +1,14 @@
 pub mod Allowed
+pub mod Appends
+pub mod Chosen
 pub mod EmptyPackets
+pub mod Encoding
+pub mod Filling
 pub mod Lengths
 pub mod NoPasses
 pub mod Once
+pub mod Planes
+pub mod Precincts
 pub mod Short
 pub mod Steps
 pub mod Whole

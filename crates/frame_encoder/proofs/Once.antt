@@ -76,7 +76,7 @@ pub none_too_small : (order : EncodeOrder) (p : Picture) (g : Geometry) (b : Bud
 none_too_small order p g b n of within small =
     let same = picture_once order.profile p small.geometry g small.of_picture of in
     within b (subst (λ h. IsOutermostBroken order.limits (empty_held h) b) same
-        small.outermost).broken
+    small.outermost).broken
 
 -- a result is the refusal for this budget, which needs so many bytes
 abbrev IsOk : Encoded → Budget → ℕ → Type 0
@@ -93,9 +93,11 @@ pub not_refused : (order : EncodeOrder) (p : Picture) (g : Geometry)
     IsWithin order.limits (empty_held g) →
     ((b : Budget) (n : ℕ) → made ≡ Err (LimitTooSmall b n) → ⊥) → (b : Budget) (n : ℕ) →
     (made ≡ Err (LimitTooSmall b n)) ↔ IsTooSmall order p b n
-not_refused order p g made of within other b n =
-    (λ same. absurd (other b n same), λ small. absurd
-        (none_too_small order p g b n of within small))
+not_refused order p g made of within other b n = (
+  λ same. absurd (other b n same),
+  λ small. absurd
+      (none_too_small order p g b n of within small),
+)
 
 pub ok_other : (made : Encoded) (b : Budget) (n : ℕ) → IsOk made b n → ⊥
 ok_other made b n same = cc
@@ -118,7 +120,7 @@ refused_so order p g found m of outermost bytes b n = (
   λ small.
       let same = picture_once order.profile p small.geometry g small.of_picture of in
       let here = subst (λ h. IsOutermostBroken order.limits (empty_held h) b) same small.outermost
-          in
+      in
       let one : found ≡ b = outermost_once order.limits (empty_held g) found b outermost here in
       let needed : n ≡ held_in (empty_held g) b =
       subst (λ h. n ≡ held_in (empty_held h) b) same small.bytes in

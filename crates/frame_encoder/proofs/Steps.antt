@@ -1,8 +1,10 @@
 -- What holds of the built-in steps of every level holds of those of a profile.
-use Rattle.std.proofs.Common.{ℕ, zero, suc, ◌<◌, ◌≤◌, ◌∷◌, arith}
+use Rattle.std.proofs.Common.{◌≡◌, ℕ, zero, suc, ◌<◌, ◌≤◌, ◌∷◌, arith}
 use Rattle.std.specs.List.{All}
 use Rattle.std.proofs.lemmas.List.Elements.{All-nil, All-cons}
-use Rattle.cine_nums.specs.Profile.{levels_of}
+use Rattle.cine_nums.specs.Profile.{guard_of, levels_of}
+use Rattle.dz_quantiser.specs.declared.steps.StepSizes.{StepSizes}
+use Rattle.frame_coefficients.specs.BuiltIn.{built_in_steps}
 use Rattle.cine_nums.specs.declared.profile.Profile.{Profile}
 use Rattle.cine_nums.specs.declared.profile.Profile.TheVariants.{TwoK, FourK}
 use Rattle.dz_quantiser.specs.Bands.{built_in_step, built_in_above, built_in_bands}
@@ -38,3 +40,8 @@ pub mantissas : (p : Profile) →
     All (λ (step : BandStep). step.mantissa < 2048) (built_in_bands (levels_of p))
 mantissas p = all_built_in (λ (step : BandStep). step.mantissa < 2048) (levels_of p) (few_levels p)
     (λ k h. omega arith)
+
+-- steps with the same guard bits and bands are the built-in ones
+pub same_steps : (p : Profile) (s : StepSizes) → s.guard ≡ guard_of p →
+    s.bands.items ≡ built_in_bands (levels_of p) → s ≡ built_in_steps p
+same_steps p s guard bands = λ i. record { guard = guard i; bands = record { items = bands i } }

@@ -17,7 +17,7 @@ use Rattle.profile_reader.specs.Spell.{written_part}
 use Rattle.tile_parts.specs.Head.{eoc}
 use Rattle.frame_encoder.specs.declared.order.EncodeOrder.{EncodeOrder}
 use Rattle.frame_encoder.specs.Encoded.{Encoding, Encodes, written_by}
-use Rattle.frame_encoder.specs.Held.{held_for}
+use Rattle.frame_packets.specs.Keeps.{frame_held}
 
 module _ (g : Geometry) (steps : StepSizes) (given : BlockId → BlockBytes) where
   parts_whole : (indexes : List ℕ) → length (flat_map (written_part g steps given) indexes)
@@ -31,7 +31,7 @@ module _ (g : Geometry) (steps : StepSizes) (given : BlockId → BlockBytes) whe
       (map (part_length g steps given) indexes) in
       omega (arith, both, rest, whole)
 
-  pub whole : length (spell g steps given) ≡ (held_for g steps given).frame
+  pub whole : length (spell g steps given) ≡ (frame_held g steps given).frame
   unfolding spell
   whole =
       let main = main_header_of (header_for g steps (part_lengths g steps given)) in

@@ -1,16 +1,11 @@
 -- Codestreams whose packets include no code-block.
 use Rattle.std.specs.Prelude.{ℕ, List}
 use Rattle.band_geometry.specs.declared.geometry.Geometry.{Geometry}
-use Rattle.band_geometry.specs.declared.places.BlockId.{BlockId}
 use Rattle.budget_duals.specs.declared.held.Held.{Held}
 use Rattle.frame_coefficients.specs.BuiltIn.{built_in_steps}
-use Rattle.profile_reader.specs.Packets.{BlockBytes, left_out, written_body}
+use Rattle.frame_packets.specs.Keeps.{frame_held, nothing}
+use Rattle.profile_reader.specs.Packets.{written_body}
 use Rattle.profile_reader.specs.Spell.{part_length, part_lengths, written_part, spell}
-use Rattle.frame_encoder.specs.Held.{held_for}
-
--- no code-block is included
-abbrev pub nothing : BlockId → BlockBytes
-nothing block = left_out
 
 abbrev pub empty_body : Geometry → ℕ → List ℕ
 empty_body g index = written_body g (built_in_steps g.profile) nothing index
@@ -29,4 +24,4 @@ empty_codestream g = spell g (built_in_steps g.profile) nothing
 
 -- what the codestream holds
 abbrev pub empty_held : Geometry → Held
-empty_held g = held_for g (built_in_steps g.profile) nothing
+empty_held g = frame_held g (built_in_steps g.profile) nothing

@@ -4,23 +4,27 @@ ghost use Rattle.budget_duals.specs.Held.{limits_of, IsWithin};
 ghost use Rattle.cine_nums.specs.Profile.{max_height_of, max_width_of};
 ghost use Rattle.cine_nums.specs.declared.budget.Budget.{Budget};
 ghost use Rattle.pnm_frames.specs.View.{picture_of};
-ghost use Rattle.frame_encoder.specs.Distortion.{undecoded_distortion};
 ghost use Rattle.frame_encoder.specs.Empty.{empty_held};
-ghost use Rattle.frame_encoder.specs.Encoded.{Encodes, IsGeometryOf, encoding_of};
+ghost use Rattle.frame_encoder.specs.Encoded.{Encodes, IsGeometryOf, encoding_of, no_passes};
+ghost use Rattle.frame_encoder.specs.Encoded.{planes_of};
+ghost use Rattle.frame_encoder.specs.Writing.{IsFrameOf};
 ghost use Rattle.frame_encoder.specs.Orders.{AreLimitsFor};
 ghost use Rattle.frame_encoder.specs.Refused.{IsTooSmall};
 ghost use Rattle.frame_encoder.specs.declared.refusal.EncodeRefusal.TheVariants.{LimitTooSmall};
 
-use crate::codestream::empty_codestream;
+use crate::codestream::codestream;
 use crate::counts::empty_held;
 use crate::order::EncodeOrder;
 use crate::refusal::EncodeRefusal;
+use crate::writing::ChosenPasses;
 use band_geometry::Geometry;
 use budget_duals::Held;
 use cine_nums::Profile;
+use coded_blocks::CodedBlocks;
 use dz_quantiser::StepSizes;
 use frame_coefficients::coefficients;
 use pnm_frames::Frame;
+use profile_reader::chosen_reads;
 use std::alloc::{AllocError, Global};
 
 /// The codestream of a frame, and what was chosen and counted of it.
@@ -49,19 +53,19 @@ fn geometry_of(profile: Profile, frame: &Frame) -> Geometry
     Geometry::new(profile, profile.levels(), frame.width, frame.height)
 }
 
-/// The distortion of a frame while no bit-plane of any coefficient is known, in units of half a
-/// step squared: the sum over the coefficients of its three components.
-fn undecoded_distortion(
+/// The code-blocks of a frame with all their coding passes, none of which is chosen.
+fn coded_passes(
     alloc: Global,
-    profile: Profile,
     geometry: &Geometry,
     frame: &Frame,
-) -> Result<u128, AllocError>
-    requires { IsGeometryOf profile (picture_of frame.now) geometry.now }
-    ensures { IfOk result (λ sum.
-        sum ≡ undecoded_distortion geometry.now (picture_of frame.now)) }
+) -> Result<ChosenPasses, AllocError>
+    requires { IsGeometryOf geometry.now.profile (picture_of frame.now) geometry.now }
+    ensures geometry { IfOk result (λ s. s.geometry ≡ geometry.now) }
+    ensures choice { IfOk result (λ s. s.choice.items ≡ no_passes geometry.now) }
+    ensures frame { IfOk result
+        (λ s. IsFrameOf (planes_of geometry.now (picture_of frame.now)) s) }
 {
-    let steps = StepSizes::built_in(profile);
+    let steps = StepSizes::built_in(geometry.profile);
     let made = coefficients(
         alloc,
         geometry,
@@ -70,7 +74,9 @@ fn undecoded_distortion(
         frame.y.as_slice(),
         frame.z.as_slice(),
     )?;
-    Ok(made.undecoded_distortion)
+    let blocks = CodedBlocks::code(alloc, geometry, &steps, &made.c0, &made.c1, &made.c2)?;
+    let chosen = ChosenPasses::none(alloc, geometry, blocks)?;
+    Ok(chosen)
 }
 
 /// Encodes a frame of this geometry, for which no limit is too small.
@@ -81,24 +87,31 @@ fn encode_within(
     geometry: &Geometry,
 ) -> Result<Encoded, AllocError>
     requires geometry { IsGeometryOf order.now.profile (picture_of frame.now) geometry.now }
+    requires allowed { AreLimitsFor order.now.profile order.now.limits }
     requires limits { IsWithin order.now.limits (empty_held geometry.now) }
     ensures { IfOk result (λ made.
         Encodes order.now (picture_of frame.now) (encoding_of made)) }
 {
-    let choice = vec![in alloc; 0u8; geometry.blocks() as usize]?;
-    let bytes = empty_codestream(alloc, geometry)?;
-    let empty = undecoded_distortion(alloc, order.profile, geometry, frame)?;
+    chosen_reads();
+    let mut chosen = coded_passes(alloc, geometry, frame)?;
+    let empty = chosen.distortion();
+    chosen.fill(&order.limits);
+    let bytes = codestream(alloc, &chosen)?;
+    let held = chosen.held();
+    let distortion = chosen.distortion();
+    let ChosenPasses { choice, .. } = chosen;
     Ok(Encoded {
         bytes,
         choice,
-        held: empty_held(geometry),
+        held,
         empty,
-        distortion: empty,
+        distortion,
     })
 }
 
-/// Encodes a frame of at most the sizes of the order's profile, without any coding pass. What the
-/// codestream holds in each byte budget is within the order's limits.
+/// Encodes a frame of at most the sizes of the order's profile. What the codestream holds in each
+/// byte budget is within the order's limits: code-block by code-block, by block number, all coding
+/// passes are chosen if every limit is kept then, and else none.
 ///
 /// `LimitTooSmall` comes exactly if the codestream without any coding pass doesn't fit these
 /// limits, before any memory is taken, and never with the limits of the profile.

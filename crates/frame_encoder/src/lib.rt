@@ -1,12 +1,13 @@
 //! The codestream of one frame of a digital cinema profile (ISO/IEC 15444-1, Annex A), within byte
 //! limits that are at most those of the DCI Digital Cinema System Specification, and the numbers of
-//! its report line. No coding pass is chosen yet: every packet is the byte 00, which includes no
-//! code-block (B.10.3).
+//! its report line. Code-block by code-block all coding passes are chosen if every limit is kept
+//! then, and else none.
 //!
 //! The contract of [`encode`] is one relation (`Encodes` in specs/Encoded.antt): the bytes are
 //! those that the standard's parts spell for the chosen coding passes (`spell` and `chosen` of
-//! profile_reader), and all limits of the order are kept. A frame is refused exactly if a limit is
-//! too small for the codestream without any coding pass, or if memory runs out.
+//! profile_reader), they are read as the coefficients cut to what these passes leave known, and all
+//! limits of the order are kept. A frame is refused exactly if a limit is too small for the
+//! codestream without any coding pass, or if memory runs out.
 //!
 //! ```
 //! let order = EncodeOrder::of(Profile::TwoK);
@@ -17,13 +18,15 @@
 
 mod codestream;
 mod counts;
+mod distortion;
+mod fill;
 mod frame;
 mod header;
 mod order;
-mod part;
 mod refusal;
 #[cfg(test)]
 mod tests;
+mod writing;
 
 pub use frame::{Encoded, encode};
 pub use order::EncodeOrder;

@@ -7,7 +7,8 @@ use Rattle.pnm_frames.specs.Picture.{Picture}
 use Rattle.frame_encoder.specs.declared.order.EncodeOrder.{EncodeOrder}
 use Rattle.frame_encoder.specs.Encoded.{Encoding, Encodes, encoding_of}
 use Rattle.encode_cli.specs.Right.{accepted, IsAccepted, RightFor}
-use Rattle.encode_cli.proofs.Breaks.{output_broken, output_made, line_broken}
+use Rattle.encode_cli.proofs.Breaks.{nothing_done, output_broken, output_made, line_broken}
+use Rattle.encode_cli.proofs.Outputs.{on_err}
 use Rattle.encode_cli.proofs.frame.write_frame.Goals as goal
 
 is_accepted : (order : EncodeOrder) (suffix name : List ℕ) (p : Picture) (e : Encoding) →
@@ -22,6 +23,13 @@ output_is : (name suffix bytes made shown : List ℕ) → shown ≡ name ++ suff
     output (name ++ suffix) made ≡ output shown bytes
 output_is name suffix bytes made shown p q =
     sym (ap (λ (n : List ℕ). output n bytes) p ∙ ap (λ (b : List ℕ). output (name ++ suffix) b) q)
+
+pub returns-in_err-line-clause-err : goal.returns-in_err-line-clause-err
+returns-in_err-line-clause-err g c =
+    on_err c.from_residual-in_err-line.result
+    (nothing_done (RightFor c.args.order.now c.args.suffix.now c.args.name.now
+    (Ok (picture_of c.args.frame.now))) (g.O.Outputs.kept c.args.outputs.now)
+    (g.S.Report.said c.args.report.now) c.requires.at_rest)
 
 pub returns-in-Err-clause-err : goal.returns-in-Err-clause-err
 returns-in-Err-clause-err g c =
@@ -46,8 +54,8 @@ returns-in-Ok-say-clause-ok g c =
       output_made visit c.as_str.result.now c.as_slice.result.now
           (g.O.Outputs.kept c.args.outputs.now) (g.O.Outputs.kept c.write_output.new.outputs)
           (output_is c.args.name.now c.args.suffix.now c.as_slice.result.now e.bytes
-              c.as_str.result.now (c.as_str.ensures.value ∙ c.in_ok-output.ensures)
-                  c.as_slice.ensures.value)
+          c.as_str.result.now (c.as_str.ensures.value ∙ c.in_ok-output.ensures)
+          c.as_slice.ensures.value)
           c.in-Ok.ensures.ok,
       c.in-Ok-say.ensures.ok ∙ ap (λ bytes. option_map (said_with bytes)
           (g.S.Report.said c.args.report.now)) (c.as_bytes.ensures.value ∙ c.in_ok-line.ensures),
@@ -63,7 +71,7 @@ returns-clause-err g c =
     (g.O.Outputs.kept c.args.outputs.now) (g.O.Outputs.kept c.write_output.new.outputs)
     (g.S.Report.said c.args.report.now) (g.S.Report.said c.say.new.report)
     (is_accepted c.args.order.now c.args.suffix.now c.args.name.now p e c.in_ok-made.ensures)
-        (c.as_bytes.ensures.value ∙ c.in_ok-line.ensures)
+    (c.as_bytes.ensures.value ∙ c.in_ok-line.ensures)
     (output_made visit c.as_str.result.now c.as_slice.result.now
     (g.O.Outputs.kept c.args.outputs.now) (g.O.Outputs.kept c.write_output.new.outputs)
     (output_is c.args.name.now c.args.suffix.now c.as_slice.result.now e.bytes c.as_str.result.now

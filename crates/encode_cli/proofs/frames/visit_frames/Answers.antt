@@ -16,7 +16,7 @@ returns-in-Err-clause-err g c =
     (g.O.Outputs.kept c.args.outputs.now) (g.S.Report.said c.args.report.now)
     (ap (λ (r : Reading). r.asked) c.list.ensures.reading
     ∙ (g.met.F.Frames.unlisted c.args.frames.now c.requires.unlisted).1) c.requires.kept
-        c.requires.said
+    c.requires.said
 
 pub visit_frame-requires-clause-other_name : goal.visit_frame-requires-clause-other_name
 visit_frame-requires-clause-other_name g c =

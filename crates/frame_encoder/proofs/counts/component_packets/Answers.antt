@@ -20,7 +20,7 @@ pub returns-clause-count : goal.returns-clause-count
 unfolding packets_of_component
 returns-clause-count c =
     let end : c.loop-res.res ≡ c.args.geometry.now.levels
-        + 1 = omega (arith, c.loop-res-test.false) in
+    + 1 = omega (arith, c.loop-res-test.false) in
     c.loop-res.invariant.made ∙ ap (λ n. length (flat_map
     (packets_of_res_in c.args.geometry.now c.args.index c.args.component)
     (range_with_len 0 n))) end

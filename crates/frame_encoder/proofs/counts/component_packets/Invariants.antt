@@ -9,5 +9,5 @@ invariant-loop-res l = record {
   few : l.count ≤ 561 * l.res;
   made : l.count ≡ length
       (flat_map (packets_of_res_in l.fn.geometry l.fn.index l.fn.component)
-          (range_with_len 0 l.res));
+      (range_with_len 0 l.res));
 }
