@@ -1,3 +1,4 @@
 pub mod Bytes
 pub mod Decoder
 pub mod Registers
+pub mod Turns

@@ -1,7 +1,8 @@
 // RENORMD.
-ghost use Rattle.std.specs.Prelude.{◌≡◌, ◌+◌, ◌-◌, ◌*◌, ◌<◌, ◌≤◌, ◌^◌, min, length};
+ghost use Rattle.std.specs.Prelude.{◌≡◌, ◌+◌, ◌-◌, ◌*◌, ◌<◌, ◌≤◌, ◌^◌, ℕ, List, min, length};
 ghost use Rattle.mq_coder.specs.Decisions.{Interval, twice, doubled};
 ghost use Rattle.mq_decoder.specs.Registers.{HoldsAt};
+ghost use Rattle.mq_decoder.specs.Turns.{twices};
 
 use crate::byte_in::byte_in;
 use crate::registers::Registers;
@@ -41,6 +42,7 @@ fn shift(bytes: &[u8], r: Registers) -> Registers
     requires inside { r.place ≤ length bytes.now }
     ensures holds { (it : Interval) → HoldsAt bytes.now r it → HoldsAt bytes.now result (twice it) }
     ensures twice { result.a ≡ 2 * r.a }
+    ensures left { r.ct ≡ 0 → 6 ≤ result.ct }
     ensures inside { result.place ≤ length bytes.now }
 {
     if r.ct > 0 {
@@ -61,21 +63,74 @@ fn shift(bytes: &[u8], r: Registers) -> Registers
     }
 }
 
+/// How often A has to be doubled until it is at least three quarters.
+#[inline(always)]
+fn shifts_due(a: u32) -> u32
+    requires some { 1 ≤ a }
+    requires sixteen_bits { a < 2 ^ 16 }
+    ensures few { result ≤ 15 }
+    ensures wide { 2 ^ 15 ≤ a * 2 ^ result }
+    ensures narrow { a * 2 ^ result < 2 ^ 16 }
+{
+    a.leading_zeros() - 16
+}
+
+/// A and C doubled `n` times, where no byte is read.
+#[inline(always)]
+fn shifted(r: Registers, n: u32) -> Registers
+    requires within { n ≤ r.ct }
+    requires narrow { r.a * 2 ^ n < 2 ^ 16 }
+    ensures holds { (bytes : List ℕ) (it : Interval) → HoldsAt bytes r it →
+        HoldsAt bytes result (twices n it) }
+    ensures wider { result.a ≡ r.a * 2 ^ n }
+    ensures left { result.ct ≡ r.ct - n }
+    ensures place { result.place ≡ r.place }
+{
+    Registers {
+        a: r.a << n,
+        c: r.c << n,
+        ct: r.ct - n,
+        place: r.place,
+    }
+}
+
+/// A and C doubled `n` times, with the bytes read that this needs.
+fn shifted_in(bytes: &[u8], r: Registers, n: u32) -> Registers
+    requires shifts { n ≤ 15 }
+    requires narrow { r.a * 2 ^ n < 2 ^ 16 }
+    requires inside { r.place ≤ length bytes.now }
+    ensures holds { (it : Interval) → HoldsAt bytes.now r it →
+        HoldsAt bytes.now result (twices n it) }
+    ensures wider { result.a ≡ r.a * 2 ^ n }
+    ensures inside { result.place ≤ length bytes.now }
+{
+    let mut now = r;
+    let mut due = n;
+    for _ in 0..3u32 {
+        if due <= now.ct {
+            break;
+        }
+        due -= now.ct + 1;
+        let empty = shifted(now, now.ct);
+        now = shift(bytes, empty);
+    }
+    shifted(now, due)
+}
+
 /// Doubles A and C until A is at least three quarters, and reads the bytes that this needs
 /// (ISO/IEC 15444-1, C.3.3).
 #[inline(always)]
 pub fn renormalise(bytes: &[u8], r: Registers) -> Registers
     requires { r.place ≤ length bytes.now }
-    ensures holds { (it : Interval) → HoldsAt bytes.now r it → HoldsAt bytes.now result (doubled 15 it) }
+    ensures holds { (it : Interval) → HoldsAt bytes.now r it →
+        HoldsAt bytes.now result (doubled 15 it) }
     ensures wide { 2 ^ 15 ≤ result.a }
     ensures inside { result.place ≤ length bytes.now }
 {
-    let mut now = r;
-    for _ in 0..15u32 {
-        if now.a >= THREE_QUARTERS {
-            break;
-        }
-        now = shift(bytes, now);
+    let n = shifts_due(r.a);
+    if n <= r.ct {
+        shifted(r, n)
+    } else {
+        shifted_in(bytes, r, n)
     }
-    now
 }

@@ -1,31 +1,24 @@
-use Rattle.std.proofs.Common.{◌≡◌, ◌-◌, ◌<◌, ◌≤◌, ◌^◌, refl, arith, add-one}
-use Rattle.std.proofs.Math.Nat.{pow-succ'}
-use Rattle.mq_decoder.proofs.Turning.{reached_next, reached_end}
+use Rattle.std.proofs.Common.{◌≡◌, ◌*◌, ◌≤◌, ◌<◌, ◌^◌, ℕ, arith, ap}
+use Rattle.mq_coder.specs.Decisions.{Interval, doubled}
+use Rattle.mq_decoder.specs.Turns.{twices}
+use Rattle.mq_decoder.proofs.Turning.{doubled_twices}
 use Rattle.mq_decoder.proofs.renormalise.renormalise.Goals as goal
 
-pub loop-init : goal.loop-init
-loop-init c = record {
-  in_step = λ it h. record { turned = it; holds = h; same_end = refl };
-  grown = c.args.r.some;
-  inside = c.requires;
-}
+-- the turns that are due
+due : (a n : ℕ) (it : Interval) → a ≡ it.size → n ≤ 15 → 2 ^ 15 ≤ a * 2 ^ n → a * 2 ^ n < 2 ^ 16
+    → doubled 15 it ≡ twices n it
+due a n it size few wide narrow =
+    let same : a * 2 ^ n ≡ it.size * 2 ^ n = ap (λ (v : ℕ). v * 2 ^ n) size in
+    doubled_twices 15 n it few (omega arith) (omega arith)
 
-pub loop-preserved : goal.loop-preserved
-loop-preserved c =
-    let small : c.loop.now.a < 2 ^ 15 = omega arith in
-    record {
-      in_step = λ it h. reached_next _ c.loop.now _ it c.loop.counter (omega arith) small
-          c.shift-now.ensures.holds (c.loop.invariant.in_step it h);
-      grown = rw (add-one, pow-succ') (omega arith);
-      inside = c.shift-now.ensures.inside;
-    }
+pub returns-then-n-r-clause-holds : goal.returns-then-n-r-clause-holds
+returns-then-n-r-clause-holds c = λ it h.
+    let turns = c.shifts_due-n.ensures in
+    rw (due c.args.r.a c.shifts_due-n.result it h.size turns.few turns.wide turns.narrow)
+    (c.shifted.ensures.holds _ it h)
 
-pub returns-after-loop-clause-holds : goal.returns-after-loop-clause-holds
-returns-after-loop-clause-holds c = λ it h.
-    let full : c.loop.counter ≡ 15 = omega arith in
-    let grown : 2 ^ 15 ≤ c.loop.now.a = rw full at c.loop.invariant.grown in
-    reached_end _ c.loop.now it (15 - c.loop.counter) grown (c.loop.invariant.in_step it h)
-
-pub returns-then-now-ge-THREE_QUARTERS-clause-holds : goal.returns-then-now-ge-THREE_QUARTERS-clause-holds
-returns-then-now-ge-THREE_QUARTERS-clause-holds c = λ it h.
-    reached_end _ c.loop.now it (15 - c.loop.counter) (omega arith) (c.loop.invariant.in_step it h)
+pub returns-else-n-r-clause-holds : goal.returns-else-n-r-clause-holds
+returns-else-n-r-clause-holds c = λ it h.
+    let turns = c.shifts_due-n.ensures in
+    rw (due c.args.r.a c.shifts_due-n.result it h.size turns.few turns.wide turns.narrow)
+    (c.shifted_in.ensures.holds it h)
