@@ -1,0 +1,10 @@
+-- Choices of passes, rivals, and what budgets hold.
+pub mod Choice
+-- Blocks by their numbers.
+pub mod Blocks
+pub mod NumberLaws
+-- The law of what the budgets of a frame hold.
+pub mod HeldLaws
+pub mod PriceLaws
+-- The hulls of blocks.
+pub mod Hulls
