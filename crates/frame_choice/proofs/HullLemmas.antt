@@ -1,8 +1,8 @@
 -- Points and hulls of code-blocks.
-use Rattle.std.proofs.Common.{◌≡◌, ℕ, zero, suc, ◌+◌, ◌-◌, ◌*◌, ◌<◌, ◌≤◌, ◌^◌, ◌==◌, List, [], ◌∷◌, ◌++◌}
-use Rattle.std.proofs.Common.{length, get_or, map, refl, sym, ap, ◌∙◌, subst, arith, Bool, true, false}
-use Rattle.std.proofs.Common.{IsTrue, inl, inr, cond, rules}
-use Rattle.std.specs.List.{AllByRecursion, filter, range_with_len}
+use Rattle.std.proofs.Common.{◌≡◌, ℕ, zero, suc, ◌+◌, ◌<◌, ◌≤◌, ◌^◌, ◌==◌, List, [], ◌∷◌, ◌++◌}
+use Rattle.std.proofs.Common.{length, refl, sym, ap, ◌∙◌, subst, arith, Bool, true, false}
+use Rattle.std.proofs.Common.{inl, inr, cond}
+use Rattle.std.specs.List.{AllByRecursion}
 use Rattle.std.proofs.lemmas.Bool.Decides.{nat_tests}
 use Rattle.std.proofs.lemmas.List.{append-nil}
 use Rattle.std.proofs.lemmas.List.Elements.{filter-append}
@@ -10,13 +10,13 @@ use Rattle.std.proofs.lemmas.List.FromFn.{length-map-range_with_len, get_or-map-
 use Rattle.std.proofs.Math.Nat.{zero-add}
 use Rattle.cine_nums.specs.declared.orient.Orient.{Orient}
 use Rattle.cine_nums.specs.declared.orient.Orient.TheVariants.{LL, HL, LH, HH}
-use Rattle.band_geometry.specs.Bands.{HasBand, IsBlock, IsOrientAt}
+use Rattle.band_geometry.specs.Bands.{IsOrientAt}
 use Rattle.band_geometry.specs.Numbering.{all_blocks}
 use Rattle.band_geometry.specs.declared.geometry.Geometry.{Geometry}
 use Rattle.band_geometry.specs.declared.places.BlockId.{BlockId}
 use Rattle.budget_duals.specs.Listed.{steps_of}
 use Rattle.budget_duals.specs.Offers.{HasBlock}
-use Rattle.dz_quantiser.specs.Bands.{AreUsable, IsUsableAt, band_planes}
+use Rattle.dz_quantiser.specs.Bands.{AreUsable, band_planes}
 use Rattle.dz_quantiser.specs.declared.steps.StepSizes.{StepSizes}
 use Rattle.coded_blocks.specs.Coded.{passes_at}
 use Rattle.ebcot_contexts.specs.Contexts.{Shape}

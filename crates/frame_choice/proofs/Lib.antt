@@ -1,3 +1,12 @@
 pub mod Taking
 pub mod HullLemmas
 pub mod NoPasses
+pub mod Sums
+pub mod BudgetSums
+pub mod LeastTerms
+pub mod Bounds
+pub mod Members
+pub mod Certify
+pub mod FewBlocks
+pub mod BlockSteps
+pub mod Ready

@@ -1,6 +1,6 @@
 -- The choice of no passes.
-use Rattle.std.proofs.Common.{◌≡◌, ℕ, zero, suc, ◌+◌, ◌<◌, ◌≤◌, List, [], ◌∷◌, length, get_or, refl, sym, ap, ◌∙◌}
-use Rattle.std.proofs.Common.{arith, inl, inr, subst, replicate}
+use Rattle.std.proofs.Common.{◌≡◌, ℕ, zero, suc, length, get_or, refl, sym, ap, ◌∙◌}
+use Rattle.std.proofs.Common.{arith, replicate}
 use Rattle.std.proofs.lemmas.List.{length-map, length-replicate}
 use mathlib.Core.Path.{fun_ext}
 use Rattle.band_geometry.specs.Counts.{number_of}

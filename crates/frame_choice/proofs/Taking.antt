@@ -1,6 +1,6 @@
 -- A step that is taken of a frame whose code-blocks are coded.
-use Rattle.std.proofs.Common.{◌≡◌, ℕ, ◌+◌, ◌<◌, ◌≤◌, List, length, get_or, set, map, refl, sym, ap, ◌∙◌}
-use Rattle.std.proofs.Common.{subst, arith, Some, inl, inr, IsTrue}
+use Rattle.std.proofs.Common.{◌≡◌, ℕ, ◌<◌, ◌≤◌, List, length, get_or, set, sym, ap, ◌∙◌}
+use Rattle.std.proofs.Common.{subst, arith, Some, inl, inr}
 use Rattle.std.specs.List.{slice_get}
 use Rattle.std.proofs.lemmas.List.{get_or-map, length-map, length-set, get_or-set_other}
 use Rattle.std.proofs.lemmas.Grind.{get_or-set_at}
@@ -13,7 +13,6 @@ use Rattle.band_geometry.specs.declared.places.BlockId.{BlockId}
 use Rattle.budget_duals.specs.Price.{AreCounts}
 use Rattle.coded_blocks.specs.Coded.{passes_at}
 use Rattle.dz_quantiser.specs.Bands.{band_planes}
-use Rattle.dz_quantiser.specs.declared.steps.StepSizes.{StepSizes}
 use Rattle.frame_packets.specs.Changes.{IsChanged}
 use Rattle.packet_headers.specs.Written.{IsPlain}
 use Rattle.packet_headers.specs.declared.entry.Entry.{Entry}

@@ -1,6 +1,7 @@
 -- The choice of coding passes of a frame, its rivals, and what its byte budgets hold (ISO/IEC
 -- 15444-1, J.14.3, on rate control; DCI Digital Cinema System Specification, section 4).
 use Rattle.std.specs.Prelude.{ℕ, ◌+◌, ◌≤◌, ◌≡◌, List, length, map, sum, if◌then◌else◌, Some}
+use Rattle.std.specs.Prelude.{replicate}
 use Rattle.cine_nums.specs.declared.budget.Budget.{Budget}
 use Rattle.band_geometry.specs.Bands.{IsBlock}
 use Rattle.band_geometry.specs.Numbering.{all_blocks}
@@ -23,10 +24,15 @@ use Rattle.profile_reader.specs.Chosen.{written_of}
 abbrev pub block_passes : Geometry → Planes → BlockId → ℕ
 block_passes g planes b = passes_of (block_shape g planes b).planes
 
--- A choice of passes: of each block, by its number, so many of its first ones.
+-- A choice of passes: of each block, by its number, so many of its first ones. A block whose largest
+-- magnitude has P bit-planes has 3 P - 2 of them, and none where P is 0 (Annex D.3).
 pub record IsChoice (g : Geometry) (planes : Planes) (choice : List ℕ) : Type 0 where
   pub long : length choice ≡ length (all_blocks g)
   pub most : (b : BlockId) → IsBlock g b → chosen_passes g choice b ≤ block_passes g planes b
+
+-- the choice of no passes at all
+abbrev pub no_passes : Geometry → List ℕ
+no_passes g = replicate (length (all_blocks g)) 0
 
 -- the bytes of a block's first k passes, those of their ended code; no pass has no bytes
 abbrev pub block_bytes : Geometry → StepSizes → Planes → BlockId → ℕ → ℕ

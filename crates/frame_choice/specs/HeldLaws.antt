@@ -1,14 +1,12 @@
 -- The law of what the budgets of a frame hold where the passes of one block change.
-use Rattle.std.proofs.Common.{◌≡◌, ℕ, zero, suc, ◌+◌, ◌*◌, ◌<◌, List, length, get_or, set, refl, sym, ap}
+use Rattle.std.proofs.Common.{◌≡◌, ℕ, zero, suc, ◌<◌, List, length, get_or, set, refl, sym, ap}
 use Rattle.std.proofs.Common.{◌∙◌, arith, inl, inr, ◌⊎◌, Bool}
 use Rattle.std.proofs.lemmas.Bool.{cases_lt}
 use Rattle.std.proofs.lemmas.List.{get_or-set_same, get_or-set_other}
 use Rattle.cine_nums.specs.Profile.{levels_of}
-use Rattle.band_geometry.specs.Bands.{IsBlock}
 use Rattle.band_geometry.specs.Counts.{number_of}
 use Rattle.band_geometry.specs.Numbering.{all_blocks}
 use Rattle.band_geometry.specs.declared.geometry.Geometry.{Geometry}
-use Rattle.band_geometry.specs.declared.places.BlockId.{BlockId}
 use Rattle.budget_duals.specs.Price.{AgreeBeside, HasLaw}
 use Rattle.dz_quantiser.specs.Bands.{AreUsable, band_planes}
 use Rattle.dz_quantiser.specs.declared.steps.StepSizes.{StepSizes}

@@ -8,3 +8,5 @@ pub mod HeldLaws
 pub mod PriceLaws
 -- The hulls of blocks.
 pub mod Hulls
+-- What stands of a choice and its certificate.
+pub mod Chosen

@@ -1,13 +1,9 @@
 -- What stands of the price of a frame: what is kept, and the law of what budgets hold.
-use Rattle.std.specs.Prelude.{ℕ, ◌≡◌, List, length, refl}
+use Rattle.std.specs.Prelude.{◌≡◌, length, refl}
 use Rattle.std.proofs.Common.{◌∙◌, ap, sym, subst}
 use Rattle.std.proofs.lemmas.List.{length-map}
 use Rattle.band_geometry.specs.Numbering.{all_blocks}
-use Rattle.band_geometry.specs.declared.geometry.Geometry.{Geometry}
 use Rattle.budget_duals.specs.Price.{HasLaw}
-use Rattle.coded_blocks.specs.declared.blocks.CodedBlocks.{CodedBlocks}
-use Rattle.codeblock_views.specs.declared.plane.CoefPlane.{CoefPlane}
-use Rattle.dz_quantiser.specs.declared.steps.StepSizes.{StepSizes}
 use Rattle.profile_reader.specs.Chosen.{Planes}
 use Rattle.frame_choice.specs.Blocks.{inside_at, most_passes, three_planes}
 use Rattle.frame_choice.specs.Choice.{block_passes, held_at}

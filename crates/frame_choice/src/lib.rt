@@ -3,17 +3,20 @@
 //!
 //! [`CodedFrame`] is a frame whose code-blocks are coded, and [`FramePrice`] a choice of passes of
 //! it: what the byte budgets hold, headers included, and would hold after one step more. [`steps`]
-//! gives the steps of the hulls of all blocks. The walk of `budget_duals` over both is to come;
-//! `specs/Choice` already has the words for a choice and its rivals. The only refusal is out of
-//! memory.
+//! gives the steps of the hulls of all blocks. [`choose`] walks over both (`budget_duals`), from the
+//! steepest step to the flattest, and returns its choice with a certificate: `IsChosen` of
+//! specs/Chosen.antt bounds how much better any other choice of passes could be. The only refusal
+//! is out of memory.
 #![tactic(auto)]
 
+mod allocation;
 mod coded;
 mod points;
 mod price;
 #[cfg(test)]
 mod tests;
 
+pub use allocation::{Choice, choose};
 pub use coded::CodedFrame;
 pub use points::steps;
 pub use price::FramePrice;

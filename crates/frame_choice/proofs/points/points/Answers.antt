@@ -1,4 +1,4 @@
-use Rattle.std.proofs.Common.{ℕ, ◌≡◌, ◌+◌, ◌<◌, ◌≤◌, ◌^◌, arith, ◌∙◌, ap, map, length, sym, subst}
+use Rattle.std.proofs.Common.{◌≡◌, ◌+◌, arith, ◌∙◌, ap, map, length, sym, subst}
 use Rattle.std.proofs.Common.{List, [], ◌∷◌, ◌++◌, inl, inr}
 use Rattle.std.proofs.Math.Nat.{zero-add}
 use Rattle.std.proofs.lemmas.List.FromFn.{map-range_with_len_more, length-map-range_with_len}
@@ -6,16 +6,12 @@ use Rattle.rd_hulls.specs.Points.{ArePoints}
 use Rattle.rd_hulls.specs.declared.point.Point.{Point}
 use Rattle.frame_choice.specs.HeldLaws.{number_cases}
 use Rattle.std.specs.List.{range_with_len}
-use Rattle.dz_quantiser.specs.Bands.{band_planes}
-use Rattle.profile_reader.specs.Chosen.{block_coefs, block_shape}
 use Rattle.rd_hulls.specs.Points.{IsPoint}
-use Rattle.frame_choice.specs.Blocks.{block_numbered, point_of, points_of}
+use Rattle.frame_choice.specs.Blocks.{block_numbered, point_of}
 use Rattle.frame_choice.specs.Choice.{block_passes}
-use Rattle.frame_choice.specs.NumberLaws.{is_block, number_is}
 use Rattle.frame_choice.specs.PriceLaws.{planes_of}
-use Rattle.frame_choice.specs.Hulls.{AreHulls, IsAdded}
-use Rattle.frame_choice.proofs.HullLemmas.{passes_is, point_made, entry_bytes, entry_point}
-use Rattle.frame_choice.proofs.HullLemmas.{few_passes, are_points, own_steps, none_yet, one_more}
+use Rattle.frame_choice.proofs.HullLemmas.{passes_is}
+use Rattle.frame_choice.proofs.HullLemmas.{few_passes, are_points}
 use Rattle.frame_choice.proofs.points.points.Goals as goal
 
 pub overflow_add-k-end : goal.overflow_add-k-end

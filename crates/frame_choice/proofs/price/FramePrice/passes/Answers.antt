@@ -1,4 +1,4 @@
-use Rattle.std.proofs.Common.{◌≡◌, ◌<◌, ◌∙◌, sym, subst}
+use Rattle.std.proofs.Common.{◌∙◌, sym}
 use Rattle.frame_choice.specs.PriceLaws.{planes_of}
 use Rattle.frame_choice.proofs.HullLemmas.{passes_is}
 use Rattle.frame_choice.proofs.Taking.{most_at}

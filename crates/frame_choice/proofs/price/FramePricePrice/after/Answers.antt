@@ -1,10 +1,10 @@
-use Rattle.std.proofs.Common.{◌≡◌, set, sym, subst}
+use Rattle.std.proofs.Common.{set, sym, subst}
 use Rattle.packet_headers.specs.Written.{CanWriteEntry}
 use Rattle.dz_quantiser.specs.Bands.{band_planes}
 use Rattle.dz_quantiser.specs.declared.steps.StepSizes.{StepSizes}
 use Rattle.profile_reader.specs.Chosen.{chosen}
 use Rattle.frame_choice.specs.PriceLaws.{planes_of}
-use Rattle.frame_choice.proofs.Taking.{block_written, block, number, fits, changed, plain}
+use Rattle.frame_choice.proofs.Taking.{number, fits, changed, plain}
 use Rattle.frame_choice.proofs.price.FramePricePrice.after.Goals as goal
 
 pub entry-entry-requires-clause-passes : goal.entry-entry-requires-clause-passes

@@ -1,0 +1,86 @@
+// The choice of a frame's passes under its byte budgets.
+ghost use Rattle.std.specs.Prelude.{◌≡◌, IfOk, is_some};
+ghost use Rattle.budget_duals.specs.Frame.{AreLow};
+ghost use Rattle.budget_duals.specs.Held.{IsWithin};
+ghost use Rattle.cine_nums.specs.Limits.{has_inner};
+ghost use Rattle.frame_choice.specs.Chosen.{IsChosen, undecoded};
+ghost use Rattle.frame_choice.specs.PriceLaws.{planes_of};
+ghost use Rattle.frame_packets.specs.Keeps.{Keeps, frame_held, nothing};
+ghost use Rattle.profile_reader.specs.Chosen.{chosen};
+
+use crate::coded::CodedFrame;
+use crate::points::steps;
+use crate::price::FramePrice;
+use budget_duals::{AllocateRefusal, Certificate, Limits, allocate};
+use frame_packets::FramePackets;
+use std::alloc::{AllocError, Global};
+
+/// A choice of passes of a frame, the packets that it makes, and how far it can be from the best
+/// one.
+#[derive(Drop)]
+pub struct Choice {
+    /// The number of coding passes of each code-block, by block number.
+    pub counts: Vec<u8>,
+    /// The packets of the frame with these passes.
+    pub packets: FramePackets,
+    /// The distortion with nothing decoded, in units of half a step squared.
+    pub empty: u128,
+    /// The multipliers, the refused steps, the distortion with the chosen passes, and the gap.
+    pub certificate: Certificate,
+}
+
+/// The distortion of a frame of which nothing is decoded, in units of half a step squared.
+fn undecoded(frame: &CodedFrame) -> u128
+    ensures { result ≡ undecoded frame.now.geometry.now (planes_of frame.now) }
+{
+    let mut sum: u128 = 0;
+    for block in 0..frame.geometry.blocks() {
+        sum += u128::from(frame.blocks.distortion(block, 0));
+    }
+    sum
+}
+
+/// Chooses the coding passes of a frame under limits that its codestream keeps without any pass, by
+/// a walk from the steepest step of the hulls of its code-blocks to the flattest (J.14.3).
+///
+/// `packets` has no included code-block. Limits are below 2^22 bytes, and `inner` is there exactly
+/// for 4K. The only refusal is out of memory.
+pub fn choose(
+    alloc: Global,
+    frame: CodedFrame,
+    limits: &Limits,
+    packets: FramePackets,
+) -> Result<Choice, AllocError>
+    requires empty { Keeps frame.geometry.now frame.steps.now nothing packets }
+    requires low { AreLow limits.now }
+    requires inner { is_some limits.now.inner ≡ has_inner frame.geometry.now.profile }
+    requires within { IsWithin limits.now
+        (frame_held frame.geometry.now frame.steps.now nothing) }
+    ensures chosen { IfOk result (λ r. IsChosen frame.entry.geometry.now frame.entry.steps.now
+        (planes_of frame.entry) limits.now r.counts.items r.certificate) }
+    ensures undecoded { IfOk result (λ r. r.empty
+        ≡ undecoded frame.entry.geometry.now (planes_of frame.entry)) }
+    ensures packets { IfOk result (λ r. Keeps frame.entry.geometry.now frame.entry.steps.now
+        (chosen frame.entry.geometry.now frame.entry.steps.now (planes_of frame.entry)
+        r.counts.items) r.packets) }
+{
+    let all = steps(alloc, &frame)?;
+    let empty = undecoded(&frame);
+    let mut price = FramePrice::new(alloc, frame, packets)?;
+    match allocate(alloc, empty, all, limits, &mut price) {
+        Ok(certificate) => {
+            let FramePrice {
+                counts,
+                packets,
+                ..
+            } = price;
+            Ok(Choice {
+                counts,
+                packets,
+                empty,
+                certificate,
+            })
+        }
+        Err(AllocateRefusal::Memory | AllocateRefusal::LimitTooSmall(_, _)) => Err(AllocError),
+    }
+}
