@@ -1,8 +1,7 @@
 -- Lists that are appended piece by piece.
-use Rattle.std.proofs.Common.{◌≡◌, ℕ, zero, suc, ◌+◌, ◌<◌, length, get_or, arith, sum, take, slice_get, Some, List, [], ◌∷◌, ◌++◌, map, refl, sym, ap, ◌∙◌}
+use Rattle.std.proofs.Common.{◌≡◌, ℕ, zero, suc, ◌+◌, ◌<◌, length, get_or, arith, List, [], ◌∷◌, ◌++◌, map, refl, sym, ap, ◌∙◌}
 use Rattle.std.proofs.Common.{append_assoc, add-one}
 use Rattle.std.specs.List.{flat_map, range_with_len}
-use Rattle.std.proofs.lemmas.List.Sums.{sum_by-cons}
 use Rattle.std.proofs.lemmas.Grind.{flat_map-append}
 use Rattle.packet_order.proofs.MemberLemmas.{pieces_more}
 
@@ -38,21 +37,3 @@ pub any_default : (xs : List ℕ) (n d e : ℕ) → n < length xs → get_or xs 
 any_default [] n d e within = absurd (omega (arith, within))
 any_default (x ∷ xs) zero d e within = refl
 any_default (x ∷ xs) (suc n) d e within = any_default xs n d e (omega (arith, within))
-
--- a sum of one item more
-pub sum_step : {A : Type 0} (f : A → ℕ) (xs : List A) (n : ℕ) (x : A) → slice_get xs n ≡ Some x →
-    sum (map f (take (n + 1) xs)) ≡ sum (map f (take n xs)) + f x
-sum_step {A} f xs n x here =
-    ap (λ (k : ℕ). sum (map f (take k xs))) (add-one n) ∙ go xs n here
-  where
-    go : (ys : List A) (m : ℕ) → slice_get ys m ≡ Some x →
-        sum (map f (take (suc m) ys)) ≡ sum (map f (take m ys)) + f x
-    go [] m h = absurd cc
-    go (y ∷ ys) zero h =
-        let same : y ≡ x = cc in
-        ap (λ z. 0 + f z) same
-    go (y ∷ ys) (suc m) h =
-        let rest = go ys m h in
-        let one = sum_by-cons (λ (k : ℕ). k) (f y) (map f (take (suc m) ys)) in
-        let other = sum_by-cons (λ (k : ℕ). k) (f y) (map f (take m ys)) in
-        omega (arith, rest, one, other)

@@ -3,9 +3,7 @@ pub mod Appends
 pub mod Chosen
 pub mod EmptyPackets
 pub mod Encoding
-pub mod Filling
 pub mod Lengths
-pub mod NoPasses
 pub mod Once
 pub mod Planes
 pub mod Precincts

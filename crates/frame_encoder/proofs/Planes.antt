@@ -1,19 +1,24 @@
 -- The coefficients that were made of a frame are those of its picture.
-use Rattle.std.proofs.Common.{◌≡◌, ◌∙◌, ℕ, List, ap, subst}
+use Rattle.std.proofs.Common.{◌≡◌, ◌∙◌, ℕ, List, [], ◌∷◌, ap, get_or, subst}
 use Rattle.band_geometry.specs.declared.geometry.Geometry.{Geometry}
+use Rattle.budget_duals.specs.declared.certificate.Certificate.{Certificate}
+use Rattle.budget_duals.specs.declared.limits.Limits.{Limits}
 use Rattle.coded_blocks.specs.Coded.{AreCoded}
 use Rattle.coded_blocks.specs.declared.blocks.CodedBlocks.{CodedBlocks}
+use Rattle.codeblock_views.specs.declared.plane.CoefPlane.{CoefPlane}
 use Rattle.dz_quantiser.specs.declared.steps.StepSizes.{StepSizes}
+use Rattle.frame_choice.specs.Blocks.{three_planes}
+use Rattle.frame_choice.specs.Chosen.{IsChosen}
 use Rattle.frame_coefficients.specs.BuiltIn.{built_in_steps}
 use Rattle.frame_coefficients.specs.Frame.{coefficients_of}
+use Rattle.frame_packets.specs.Keeps.{FrameKept, Keeps}
 use Rattle.pnm_frames.specs.Picture.{Picture}
-use Rattle.profile_reader.specs.Chosen.{Planes}
-use Rattle.frame_encoder.specs.Encoded.{planes_of}
+use Rattle.profile_reader.specs.Chosen.{Planes, chosen, choice_distortion}
+use Rattle.frame_encoder.specs.Encoded.{plane_of, planes_of}
 
-pub plane_made : (g : Geometry) (p : Picture) (steps : StepSizes) (i : ℕ) (xs ys zs : List ℕ) →
+plane_made : (g : Geometry) (p : Picture) (steps : StepSizes) (i : ℕ) (xs ys zs : List ℕ) →
     steps ≡ built_in_steps g.profile → xs ≡ p.x → ys ≡ p.y → zs ≡ p.z →
-    coefficients_of g.levels g.width g.height steps i xs ys zs ≡ planes_of g p i
-unfolding planes_of
+    coefficients_of g.levels g.width g.height steps i xs ys zs ≡ plane_of g p i
 plane_made g p steps i xs ys zs same first second third =
     let built = built_in_steps g.profile in
     ap (λ (s : StepSizes). coefficients_of g.levels g.width g.height s i xs ys zs) same
@@ -21,7 +26,46 @@ plane_made g p steps i xs ys zs same first second third =
     ∙ ap (λ (y : List ℕ). coefficients_of g.levels g.width g.height built i p.x y zs) second
     ∙ ap (λ (z : List ℕ). coefficients_of g.levels g.width g.height built i p.x p.y z) third
 
-pub coded_with : (g : Geometry) (planes : Planes) (blocks : CodedBlocks) (made steps : StepSizes) →
-    made ≡ steps → AreCoded g made planes blocks → AreCoded g steps planes blocks
-coded_with g planes blocks made steps same coded =
-    subst (λ (s : StepSizes). AreCoded g s planes blocks) same coded
+planes_made : (g : Geometry) (p : Picture) (c0 c1 c2 : CoefPlane) →
+    c0.cells.items ≡ plane_of g p 0 → c1.cells.items ≡ plane_of g p 1 →
+    c2.cells.items ≡ plane_of g p 2 → three_planes c0 c1 c2 ≡ planes_of g p
+unfolding planes_of
+planes_made g p c0 c1 c2 first second third =
+    λ i. λ c. get_or (first i ∷ second i ∷ third i ∷ []) c []
+
+-- the same from the steps and samples that they were made with
+pub planes_from : (g : Geometry) (p : Picture) (steps : StepSizes) (c0 c1 c2 : CoefPlane)
+    (xs ys zs : List ℕ) → steps ≡ built_in_steps g.profile → xs ≡ p.x → ys ≡ p.y → zs ≡ p.z →
+    c0.cells.items ≡ coefficients_of g.levels g.width g.height steps 0 xs ys zs →
+    c1.cells.items ≡ coefficients_of g.levels g.width g.height steps 1 xs ys zs →
+    c2.cells.items ≡ coefficients_of g.levels g.width g.height steps 2 xs ys zs →
+    three_planes c0 c1 c2 ≡ planes_of g p
+planes_from g p steps c0 c1 c2 xs ys zs same x y z first second third =
+    let there = λ (i : ℕ). plane_made g p steps i xs ys zs same x y z in
+    planes_made g p c0 c1 c2 (first ∙ there 0) (second ∙ there 1) (third ∙ there 2)
+
+-- What holds of the steps and planes that were made holds of those of the profile and the picture.
+module _ (g : Geometry) (made steps : StepSizes) (first planes : Planes) (same : made ≡ steps)
+    (same_planes : first ≡ planes) where
+  pub coded_with : (blocks : CodedBlocks) → AreCoded g made first blocks →
+      AreCoded g steps planes blocks
+  coded_with blocks coded =
+      subst (λ (f : Planes). AreCoded g steps f blocks) same_planes
+      (subst (λ (s : StepSizes). AreCoded g s first blocks) same coded)
+
+  pub chosen_with : (limits : Limits) (choice : List ℕ) (c : Certificate) →
+      IsChosen g made first limits choice c → IsChosen g steps planes limits choice c
+  chosen_with limits choice c chosen =
+      subst (λ (f : Planes). IsChosen g steps f limits choice c) same_planes
+      (subst (λ (s : StepSizes). IsChosen g s first limits choice c) same chosen)
+
+  pub kept_with : (choice : List ℕ) (packets : FrameKept) →
+      Keeps g made (chosen g made first choice) packets →
+      Keeps g steps (chosen g steps planes choice) packets
+  kept_with choice packets kept =
+      subst (λ (f : Planes). Keeps g steps (chosen g steps f choice) packets) same_planes
+      (subst (λ (s : StepSizes). Keeps g s (chosen g s first choice) packets) same kept)
+
+  pub distortion_with : (choice : List ℕ) →
+      choice_distortion g first choice ≡ choice_distortion g planes choice
+  distortion_with choice = ap (λ (f : Planes). choice_distortion g f choice) same_planes

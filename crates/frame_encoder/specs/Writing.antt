@@ -1,9 +1,7 @@
 -- A frame's code-blocks and packets at a choice of coding passes.
-use Rattle.std.specs.Prelude.{ℕ, ◌≡◌, List}
+use Rattle.std.specs.Prelude.{ℕ, List}
 use Rattle.band_geometry.specs.declared.places.BlockId.{BlockId}
 use Rattle.budget_duals.specs.declared.held.Held.{Held}
-use Rattle.budget_duals.specs.Held.{IsWithin}
-use Rattle.budget_duals.specs.declared.limits.Limits.{Limits}
 use Rattle.coded_blocks.specs.Coded.{AreCoded}
 use Rattle.dz_quantiser.specs.declared.steps.StepSizes.{StepSizes}
 use Rattle.frame_coefficients.specs.BuiltIn.{built_in_steps}
@@ -44,12 +42,3 @@ part_of planes s index = written_part s.geometry (steps_of s) (chosen_by planes 
 -- what the codestream holds in its byte budgets
 abbrev pub chosen_held : Planes → ChosenPasses → Held
 chosen_held planes s = frame_held s.geometry (steps_of s) (chosen_by planes s)
-
--- Other passes are chosen of the same frame, and what the codestream holds is still within the
--- limits.
-pub record IsFilled (limits : Limits) (old new : ChosenPasses) : Type 0 where
-  pub geometry : new.geometry ≡ old.geometry
-  pub blocks : new.blocks ≡ old.blocks
-  pub frame : (planes : Planes) → IsFrameOf planes old → IsFrameOf planes new
-  pub within : (planes : Planes) → IsFrameOf planes old →
-      IsWithin limits (chosen_held planes old) → IsWithin limits (chosen_held planes new)

@@ -1,15 +1,16 @@
 // Codestreams of whole frames.
 
-ghost use Rattle.std.specs.Prelude.{◌≤◌};
+ghost use Rattle.std.specs.Prelude.{◌^◌, ◌<◌, ◌≤◌};
 ghost use Rattle.cine_nums.specs.Profile.{max_height_of, max_width_of};
 ghost use Rattle.frame_encoder.specs.Orders.{AreLimitsFor};
 
 use crate::frame::{Encoded, encode};
 use crate::order::EncodeOrder;
 use crate::refusal::EncodeRefusal;
-use budget_duals::Held;
+use budget_duals::{Held, Limits, RefusedStep};
 use cine_nums::{Budget, Profile};
 use pnm_frames::Frame;
+use rd_hulls::Step;
 use std::alloc::Global;
 use std::test::Fail;
 
@@ -39,6 +40,37 @@ fn encode_plain(
     encode(alloc, &frame, order)
 }
 
+/// The limits of a frame whose first component alone has passes.
+fn limits_of(frame: u32, inner: Option<u32>, c0: u32) -> Limits {
+    Limits {
+        frame,
+        inner,
+        component: [c0, 20, 20],
+    }
+}
+
+/// The step of block 0 from no pass to `to`, which a budget refused. It has one byte of code, and
+/// its packet header grows by three.
+fn refused(budget: Budget, to: u8, gain: u128, price: u128) -> RefusedStep
+    requires to { 1 ≤ to }
+    requires some_gain { 1 ≤ gain }
+    requires gain { gain < 2 ^ 64 }
+{
+    let step = Step {
+        block: 0,
+        from: 0,
+        to,
+        len: 1,
+        gain,
+    };
+    RefusedStep {
+        budget,
+        step,
+        grow: 3,
+        price,
+    }
+}
+
 #[test]
 fn frames_of_the_smallest_and_the_largest_sizes(rt: HostRuntime) -> Result<(), Fail> {
     let alloc = rt.alloc();
@@ -60,6 +92,7 @@ fn frames_of_the_smallest_and_the_largest_sizes(rt: HostRuntime) -> Result<(), F
             component,
         };
         assert!(rt; made.held == held);
+        assert_eq!(rt; (made.empty, made.certificate.gap), (0, 0));
     }
     Ok(())
 }
@@ -70,65 +103,151 @@ fn frames_of_the_smallest_and_the_largest_sizes(rt: HostRuntime) -> Result<(), F
 fn the_passes_of_a_pixel(rt: HostRuntime) -> Result<(), Fail> {
     let alloc = rt.alloc();
     for (profile, sample, frame, passes, empty, packet) in [
-        (Profile::TwoK, 2049, 195, 19, 16641, b"\xC0\x07\xDA\x02\x04"),
+        (
+            Profile::TwoK,
+            2049,
+            195,
+            18,
+            16641,
+            b"\xC0\x07\xD8\x02\x04\0\0",
+        ),
+        (
+            Profile::TwoK,
+            4095,
+            197,
+            48,
+            68652908289,
+            b"\xDF\xF8\xB0\x18\0\xEA\xC8",
+        ),
         (
             Profile::TwoK,
             0,
             195,
-            52,
+            51,
             68720001025,
-            b"\xFF\x78\xF0\x08\x07",
+            b"\xFF\x78\xE0\x08\x07\0\0",
         ),
         (
             Profile::FourK,
             2049,
             280,
-            22,
+            21,
             66049,
-            b"\xC0\x03\xF0\x01\x04",
+            b"\xC0\x03\xEF\x01\x04\0\0",
+        ),
+        (
+            Profile::FourK,
+            4095,
+            282,
+            51,
+            274610585089,
+            b"\xCF\xFC\x70\x0C\0\xEA\xC8",
         ),
         (
             Profile::FourK,
             0,
             280,
-            55,
+            54,
             274878955521,
-            b"\xDF\xF9\x20\x08\x07",
+            b"\xDF\xF9\x10\x08\x07\0\0",
         ),
     ] {
         let made = encode_plain(alloc, &EncodeOrder::of(profile), 1, 1, sample)?;
         assert_eq!(rt; made.held.frame, frame);
         assert!(rt; made.choice.as_slice() == [passes, 0, 0].as_slice());
         assert_eq!(rt; made.empty, empty);
-        assert_eq!(rt; made.distortion, 0);
+        assert_eq!(rt; (made.certificate.distortion, made.certificate.gap), (0, 0));
+        assert!(rt; made.certificate.multipliers == [0; 5]);
+        assert!(rt; made.certificate.refused.is_empty());
         let place = match profile {
-            Profile::TwoK => 143..148,
-            Profile::FourK => 183..188,
+            Profile::TwoK => 143..150,
+            Profile::FourK => 183..190,
         };
         assert!(rt; made.bytes.as_slice().get(place) == Some(packet.as_slice()));
     }
     Ok(())
 }
 
-// The passes of the pixel need 195 bytes, and its component 24.
+// The block of the pixel has one step, whose gain is the distortion, and needs 4 bytes, of which 3
+// are there. The outermost budget that lacks one has a multiplier of 2^32 times the gain, and the
+// gap is three times the gain.
 #[test]
-fn passes_that_dont_fit_are_left_out(rt: HostRuntime) -> Result<(), Fail> {
+fn a_step_that_doesnt_fit(rt: HostRuntime) -> Result<(), Fail> {
     let alloc = rt.alloc();
-    for (frame, component, passes, left) in [
-        (195, 24, 19, 0),
-        (194, 24, 0, 16641),
-        (195, 23, 0, 16641),
+    for (profile, limits, budget, multipliers) in [
+        (
+            Profile::TwoK,
+            limits_of(194, None, 24),
+            Budget::Frame,
+            [71472550772736, 0, 0, 0, 0],
+        ),
+        (
+            Profile::TwoK,
+            limits_of(194, None, 23),
+            Budget::Frame,
+            [71472550772736, 0, 0, 0, 0],
+        ),
+        (
+            Profile::TwoK,
+            limits_of(195, None, 23),
+            Budget::C0,
+            [0, 0, 71472550772736, 0, 0],
+        ),
+        (
+            Profile::FourK,
+            limits_of(279, Some(235), 24),
+            Budget::Frame,
+            [283678294933504, 0, 0, 0, 0],
+        ),
+        (
+            Profile::FourK,
+            limits_of(280, Some(234), 23),
+            Budget::Inner,
+            [0, 283678294933504, 0, 0, 0],
+        ),
+        (
+            Profile::FourK,
+            limits_of(280, Some(235), 23),
+            Budget::C0,
+            [0, 0, 283678294933504, 0, 0],
+        ),
     ] {
-        let mut order = EncodeOrder::of(Profile::TwoK);
-        order.limits.frame = frame;
-        let components = [component, 20, 20];
-        order.limits.component = components;
+        let order = EncodeOrder { profile, limits };
+        if !order.is_allowed() {
+            return Err(Fail::new("the limits are those of another profile"));
+        }
+        let made = encode_plain(alloc, &order, 1, 1, 2049)?;
+        assert!(rt; made.choice.as_slice() == [0, 0, 0].as_slice());
+        let (step, distortion, gap) = match profile {
+            Profile::TwoK => (refused(budget, 18, 16641, 66564), 16641, 49923),
+            Profile::FourK => (refused(budget, 21, 66049, 264196), 66049, 198147),
+        };
+        let certificate = &made.certificate;
+        assert!(rt; certificate.multipliers == multipliers);
+        assert!(rt; certificate.refused.as_slice() == [step].as_slice());
+        assert_eq!(rt;
+            (certificate.distortion, certificate.gap),
+            (distortion, gap)
+        );
+    }
+    Ok(())
+}
+
+#[test]
+fn a_step_that_just_fits(rt: HostRuntime) -> Result<(), Fail> {
+    let alloc = rt.alloc();
+    for (profile, limits, passes) in [
+        (Profile::TwoK, limits_of(195, None, 24), 18),
+        (Profile::FourK, limits_of(280, Some(235), 24), 21),
+    ] {
+        let order = EncodeOrder { profile, limits };
         if !order.is_allowed() {
             return Err(Fail::new("the limits are those of another profile"));
         }
         let made = encode_plain(alloc, &order, 1, 1, 2049)?;
         assert!(rt; made.choice.as_slice() == [passes, 0, 0].as_slice());
-        assert_eq!(rt; made.distortion, left);
+        assert_eq!(rt; made.held.frame, limits.frame);
+        assert_eq!(rt; (made.certificate.distortion, made.certificate.gap), (0, 0));
     }
     Ok(())
 }

@@ -1,14 +1,12 @@
 // A frame's code-blocks and packets at a choice of coding passes, and how they are written.
-ghost use Rattle.std.specs.Prelude.{ℕ, ◌≡◌, ◌-◌, ◌<◌, ◌≤◌, ◌++◌, length, get_or, replicate};
-ghost use Rattle.std.specs.Prelude.{IfOk, OnOk};
+ghost use Rattle.std.specs.Prelude.{ℕ, ◌≡◌, ◌-◌, ◌<◌, ◌≤◌, ◌++◌, length, get_or, OnOk};
 ghost use Rattle.std.specs.List.{flat_map};
 ghost use Rattle.band_geometry.specs.Bands.{HasBand, IsBlock, precinct_blocks_of};
 ghost use Rattle.band_geometry.specs.Numbering.{all_blocks};
 ghost use Rattle.band_geometry.specs.Sizes.{precinct_count};
 ghost use Rattle.band_geometry.specs.TileParts.{part_of_res};
-ghost use Rattle.coded_blocks.specs.Coded.{AreCoded, count_of, passes_at};
+ghost use Rattle.coded_blocks.specs.Coded.{count_of, passes_at};
 ghost use Rattle.cine_nums.specs.Profile.{levels_of, parts_of};
-ghost use Rattle.frame_coefficients.specs.BuiltIn.{built_in_steps};
 ghost use Rattle.packet_order.specs.Blocks.{blocks_in, blocks_of_packet, row_in};
 ghost use Rattle.packet_order.specs.Order.{IsPacketOf};
 ghost use Rattle.profile_reader.specs.Chosen.{Planes};
@@ -17,7 +15,6 @@ use band_geometry::{BlockId, BlockRange, Geometry};
 use budget_duals::Held;
 use cine_nums::Orient;
 use coded_blocks::CodedBlocks;
-use dz_quantiser::StepSizes;
 use frame_packets::FramePackets;
 use packet_headers::header;
 use packet_order::{PacketId, order};
@@ -43,32 +40,6 @@ pub struct ChosenPasses {
 impl ChosenPasses {
     ghost use Rattle.frame_encoder.specs.Writing.{IsFrameOf, chosen_held, code_of, packet_of};
     ghost use Rattle.frame_encoder.specs.Writing.{body_of, part_of};
-
-    /// No pass is chosen.
-    pub fn none(
-        alloc: Global,
-        geometry: &Geometry,
-        blocks: CodedBlocks,
-    ) -> Result<ChosenPasses, AllocError>
-        requires levels { geometry.now.levels ≡ levels_of geometry.now.profile }
-        requires blocks { count_of blocks ≡ length (all_blocks geometry.now) }
-        ensures geometry { IfOk result (λ s. s.geometry ≡ geometry.now) }
-        ensures choice { IfOk result (λ s.
-            s.choice.items ≡ replicate (length (all_blocks geometry.now)) 0) }
-        ensures frame { IfOk result (λ s. (planes : Planes) →
-            AreCoded geometry.now (built_in_steps geometry.now.profile) planes blocks →
-            IsFrameOf planes s) }
-    {
-        let steps = StepSizes::built_in(geometry.profile);
-        let packets = FramePackets::empty(alloc, geometry, &steps)?;
-        let choice = vec![in alloc; 0u8; geometry.blocks() as usize]?;
-        Ok(ChosenPasses {
-            geometry: *geometry,
-            blocks,
-            choice,
-            packets,
-        })
-    }
 
     /// Appends the bytes of a code-block.
     fn push_block(&self, id: BlockId, out: &mut Vec<u8>) -> Result<(), AllocError>
