@@ -39,6 +39,7 @@ use Rattle.frame_choice.proofs.BudgetSums.{sum_in}
 use Rattle.frame_choice.proofs.HullLemmas.{point_is, points_long}
 use Rattle.frame_choice.proofs.Members.{are_members}
 use Rattle.frame_choice.proofs.NoPasses.{zero_at}
+use Rattle.frame_choice.proofs.RefusedSteps.{all_refused, itself_fits, listed_budgets}
 use Rattle.frame_choice.proofs.Sums.{listed_sum}
 
 -- ---- a choice by the numbers of its blocks
@@ -202,6 +203,7 @@ module _ (g : Geometry) (steps : StepSizes) (planes : Planes) where
       is_choice = choice;
       within = within;
       distortion = chosen_distortion;
+      fits = itself_fits g steps planes limits counts within;
       rivals = rivals_above;
       hull_steps = hull_steps;
       hulls = hulls;
@@ -215,6 +217,9 @@ module _ (g : Geometry) (steps : StepSizes) (planes : Planes) where
       gap = gap_is limits blocks (inside_at g) (held_at g steps planes) points_at hull_steps
           counts done left (undecoded g planes) c members are hulls h;
       chosen = near;
+      refused = all_refused g steps planes limits counts hull_steps done left c inner are hulls
+          choice h;
+      budgets = listed_budgets g steps planes limits counts hull_steps done left c h;
       below_prices = h.below_prices;
       none = h.none;
     }

@@ -6,6 +6,7 @@ pub mod BudgetSums
 pub mod LeastTerms
 pub mod Bounds
 pub mod Members
+pub mod RefusedSteps
 pub mod Certify
 pub mod FewBlocks
 pub mod BlockSteps

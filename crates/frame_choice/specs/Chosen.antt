@@ -1,6 +1,8 @@
 -- What stands of a choice of passes and its certificate: the lower bound on the distortion of its
 -- rivals (ISO/IEC 15444-1, J.14.3, on rate control).
-use Rattle.std.specs.Prelude.{ℕ, ◌≡◌, ◌+◌, ◌<◌, ◌≤◌, List, length, get_or}
+use Rattle.std.specs.Prelude.{ℕ, ◌≡◌, ◌+◌, ◌<◌, ◌≤◌, List, length, get_or, map, nat_lt}
+use Rattle.std.specs.List.{All, filter}
+use Rattle.cine_nums.specs.declared.budget.Budget.{Budget}
 use Rattle.rd_hulls.specs.declared.step.Step.{Step}
 use Rattle.rd_hulls.specs.Hull.{IsHull}
 use Rattle.band_geometry.specs.Bands.{IsBlock}
@@ -25,6 +27,7 @@ use Rattle.profile_reader.specs.Chosen.{Planes, choice_distortion}
 use Rattle.frame_choice.specs.Blocks.{block_numbered, inside_at, point_of, points_of}
 use Rattle.frame_choice.specs.Choice.{FitsBesideHeaders, IsChoice, block_passes, held_at}
 use Rattle.frame_choice.specs.Choice.{no_passes}
+use Rattle.frame_choice.specs.Refused.{IsRefusedStep, all_budgets, multiplier_in}
 
 -- the distortion of a frame of which nothing is decoded
 abbrev pub undecoded : Geometry → Planes → ℕ
@@ -42,6 +45,8 @@ pub record IsChosen (g : Geometry) (steps : StepSizes) (planes : Planes) (limits
   -- each budget is within its limit, headers included
   pub within : IsWithin limits (held_at g steps planes choice)
   pub distortion : c.distortion ≡ choice_distortion g planes choice
+  -- the choice is one of those that fit beside the headers written for it
+  pub fits : FitsBesideHeaders g steps planes limits choice choice
   -- No choice of passes that fits beside the written headers has a distortion below the chosen
   -- one's, less the gap.
   pub rivals : (rival : List ℕ) → IsChoice g planes rival →
@@ -75,6 +80,10 @@ pub record IsChosen (g : Geometry) (steps : StepSizes) (planes : Planes) (limits
       ≤ term (block_rate (choice_budgets g steps planes limits)
       (so_far choice done left certificate.closed) (number_of g b))
       (point_of g steps planes b k) + 131072
+  -- The refused steps: one of each budget with a multiplier above 0, the outermost first.
+  pub refused : All (IsRefusedStep g steps planes limits choice c.multipliers) c.refused.items
+  pub budgets : map (λ (r : RefusedStep). r.budget) c.refused.items
+      ≡ filter (λ (j : Budget). nat_lt 0 (multiplier_in c.multipliers j)) all_budgets
   -- The gap is at most the prices of the refused steps together and 1, and 0 where no budget has a
   -- multiplier.
   pub below_prices : c.gap ≤ total (λ (r : RefusedStep). r.price) c.refused.items + 1

@@ -8,5 +8,7 @@ pub mod HeldLaws
 pub mod PriceLaws
 -- The hulls of blocks.
 pub mod Hulls
+-- The steps that budgets refuse.
+pub mod Refused
 -- What stands of a choice and its certificate.
 pub mod Chosen
