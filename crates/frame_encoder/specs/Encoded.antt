@@ -118,6 +118,7 @@ pub record Encodes (order : EncodeOrder) (p : Picture) (e : Encoding) : Type 0 w
   -- and 0 where no budget has a multiplier.
   pub no_multiplier : ((j : ℕ) → j < 5 → number_at e.certificate.multipliers j ≡ 0) →
       e.certificate.gap ≡ 0
-  -- Multipliers, gap and refused steps are those of the walk over the hulls of the blocks.
+  -- Multipliers, gap and refused steps are those of the walk over the hulls of the blocks, and each
+  -- refused step leads from the chosen passes of a block to passes that would break a limit.
   pub chosen : IsChosen geometry (steps_in geometry) (planes_of geometry p) order.limits e.choice
       e.certificate

@@ -1,6 +1,6 @@
 // Codestreams of whole frames.
 
-ghost use Rattle.std.specs.Prelude.{◌^◌, ◌<◌, ◌≤◌};
+ghost use Rattle.std.specs.Prelude.{◌≤◌};
 ghost use Rattle.cine_nums.specs.Profile.{max_height_of, max_width_of};
 ghost use Rattle.frame_encoder.specs.Orders.{AreLimitsFor};
 
@@ -10,9 +10,36 @@ use crate::refusal::EncodeRefusal;
 use budget_duals::{Held, Limits, RefusedStep};
 use cine_nums::{Budget, Profile};
 use pnm_frames::Frame;
-use rd_hulls::Step;
 use std::alloc::Global;
 use std::test::Fail;
+
+/// The codestream of a frame whose pixels all have these samples.
+fn encode_pixels(
+    alloc: Global,
+    order: &EncodeOrder,
+    width: u32,
+    height: u32,
+    samples: (u16, u16, u16),
+) -> Result<Encoded, EncodeRefusal>
+    requires some_width { 1 ≤ width }
+    requires width { width ≤ max_width_of order.now.profile }
+    requires some_height { 1 ≤ height }
+    requires height { height ≤ max_height_of order.now.profile }
+    requires x { samples.0 ≤ 4095 }
+    requires y { samples.1 ≤ 4095 }
+    requires z { samples.2 ≤ 4095 }
+    requires limits { AreLimitsFor order.now.profile order.now.limits }
+{
+    let count = width as usize * height as usize;
+    let frame = Frame {
+        width,
+        height,
+        x: vec![in alloc; samples.0; count]?,
+        y: vec![in alloc; samples.1; count]?,
+        z: vec![in alloc; samples.2; count]?,
+    };
+    encode(alloc, &frame, order)
+}
 
 /// The codestream of a frame whose samples have all the same value.
 fn encode_plain(
@@ -29,15 +56,7 @@ fn encode_plain(
     requires sample { sample ≤ 4095 }
     requires limits { AreLimitsFor order.now.profile order.now.limits }
 {
-    let count = width as usize * height as usize;
-    let frame = Frame {
-        width,
-        height,
-        x: vec![in alloc; sample; count]?,
-        y: vec![in alloc; sample; count]?,
-        z: vec![in alloc; sample; count]?,
-    };
-    encode(alloc, &frame, order)
+    encode_pixels(alloc, order, width, height, (sample, sample, sample))
 }
 
 /// The limits of a frame whose first component alone has passes.
@@ -49,26 +68,42 @@ fn limits_of(frame: u32, inner: Option<u32>, c0: u32) -> Limits {
     }
 }
 
-/// The step of block 0 from no pass to `to`, which a budget refused. It has one byte of code, and
-/// its packet header grows by three.
-fn refused(budget: Budget, to: u8, gain: u128, price: u128) -> RefusedStep
-    requires to { 1 ≤ to }
-    requires some_gain { 1 ≤ gain }
-    requires gain { gain < 2 ^ 64 }
-{
-    let step = Step {
-        block: 0,
-        from: 0,
-        to,
-        len: 1,
-        gain,
-    };
-    RefusedStep {
-        budget,
-        step,
-        grow: 3,
-        price,
+/// Of a refused step its block, the passes before and after, its bytes, those of the header, its
+/// gain and its price.
+fn numbers(refused: &RefusedStep) -> [u128; 7] {
+    let step = refused.step;
+    [
+        u128::from(step.block),
+        u128::from(step.from),
+        u128::from(step.to),
+        u128::from(step.len),
+        u128::from(refused.grow),
+        step.gain,
+        refused.price,
+    ]
+}
+
+/// How many passes are chosen.
+fn passes(made: &Encoded) -> u64 {
+    let mut sum: u64 = 0;
+    for count in &made.choice {
+        sum = sum.wrapping_add(u64::from(*count));
     }
+    sum
+}
+
+/// Whether these are the refused steps of an encoding.
+fn refuses(made: &Encoded, steps: &[(Budget, [u128; 7])]) -> bool {
+    let found = made.certificate.refused.as_slice();
+    if found.len() != steps.len() {
+        return false;
+    }
+    for (refused, (budget, wanted)) in found.iter().zip(steps.iter()) {
+        if refused.budget != *budget || numbers(refused) != *wanted {
+            return false;
+        }
+    }
+    true
 }
 
 #[test]
@@ -219,12 +254,12 @@ fn a_step_that_doesnt_fit(rt: HostRuntime) -> Result<(), Fail> {
         let made = encode_plain(alloc, &order, 1, 1, 2049)?;
         assert!(rt; made.choice.as_slice() == [0, 0, 0].as_slice());
         let (step, distortion, gap) = match profile {
-            Profile::TwoK => (refused(budget, 18, 16641, 66564), 16641, 49923),
-            Profile::FourK => (refused(budget, 21, 66049, 264196), 66049, 198147),
+            Profile::TwoK => ([0, 0, 18, 1, 3, 16641, 66564], 16641, 49923),
+            Profile::FourK => ([0, 0, 21, 1, 3, 66049, 264196], 66049, 198147),
         };
         let certificate = &made.certificate;
         assert!(rt; certificate.multipliers == multipliers);
-        assert!(rt; certificate.refused.as_slice() == [step].as_slice());
+        assert!(rt; refuses(&made, &[(budget, step)]));
         assert_eq!(rt;
             (certificate.distortion, certificate.gap),
             (distortion, gap)
@@ -249,6 +284,76 @@ fn a_step_that_just_fits(rt: HostRuntime) -> Result<(), Fail> {
         assert_eq!(rt; made.held.frame, limits.frame);
         assert_eq!(rt; (made.certificate.distortion, made.certificate.gap), (0, 0));
     }
+    Ok(())
+}
+
+/// A row of pixels 64 high, the samples 4095, 100 and 3000 in each. Only the lowest band has passes:
+/// two code-blocks of each component.
+fn encode_row(alloc: Global, order: &EncodeOrder, width: u32) -> Result<Encoded, EncodeRefusal>
+    requires some_width { 1 ≤ width }
+    requires width { width ≤ max_width_of order.now.profile }
+    requires limits { AreLimitsFor order.now.profile order.now.limits }
+{
+    encode_pixels(alloc, order, width, 64, (4095, 100, 3000))
+}
+
+// The values come from a program that shares no code with this one.
+#[test]
+fn blocks_that_share_a_limit_of_2k(rt: HostRuntime) -> Result<(), Fail> {
+    let mut order = EncodeOrder::of(Profile::TwoK);
+    let component = [60; 3];
+    order.limits.component = component;
+    if !order.is_allowed() {
+        return Err(Fail::new("the limits are those of another profile"));
+    }
+    let made = encode_row(rt.alloc(), &order, 2048)?;
+    assert_eq!(rt; (made.held.frame, passes(&made)), (295, 78));
+    assert!(rt; made.held.component == [56, 56, 52]);
+    assert_eq!(rt; made.empty, 8142225950336);
+    let certificate = &made.certificate;
+    assert_eq!(rt;
+        (certificate.distortion, certificate.gap),
+        (1042060928, 894290239)
+    );
+    let multipliers = [0, 0, 16935411098757802, 47498902319923, 471626960977410275];
+    assert!(rt; certificate.multipliers == multipliers);
+    let steps = [
+        (Budget::C0, [1, 6, 12, 12, 0, 47316992, 47316992]),
+        (Budget::C1, [189, 15, 30, 10, 0, 110592, 110592]),
+        (Budget::C2, [377, 3, 12, 9, 0, 988282880, 988282880]),
+    ];
+    assert!(rt; refuses(&made, &steps));
+    Ok(())
+}
+
+// The values come from the same program. The 2K portion has a multiplier, and a component in it too.
+#[test]
+fn blocks_that_share_a_limit_of_4k(rt: HostRuntime) -> Result<(), Fail> {
+    let mut order = EncodeOrder::of(Profile::FourK);
+    order.limits.inner = Some(360);
+    order.limits.component[0] = 60;
+    if !order.is_allowed() {
+        return Err(Fail::new("the limits are those of another profile"));
+    }
+    let made = encode_row(rt.alloc(), &order, 4096)?;
+    assert_eq!(rt;
+        (made.held.frame, made.held.inner, passes(&made)),
+        (443, 353, 132)
+    );
+    assert!(rt; made.held.component == [58, 58, 66]);
+    assert_eq!(rt; made.empty, 16282798809664);
+    let certificate = &made.certificate;
+    assert_eq!(rt;
+        (certificate.distortion, certificate.gap),
+        (6365760, 1026902)
+    );
+    let multipliers = [0, 32985348833280, 2089805100526250, 0, 0];
+    assert!(rt; certificate.multipliers == multipliers);
+    let steps = [
+        (Budget::Inner, [760, 27, 33, 8, 0, 61440, 61440]),
+        (Budget::C0, [0, 12, 21, 6, 0, 2965504, 2965504]),
+    ];
+    assert!(rt; refuses(&made, &steps));
     Ok(())
 }
 
