@@ -81,7 +81,7 @@ module _ (limits : Limits) (blocks : ℕ) (inside : ℕ → Members)
   abbrev body_at : (ℕ → ℕ) → ℕ → ℕ
   body_at x j = body (around_of limits.inner) (λ b. node_in (inside b)) x blocks j
 
-  body_is : (x : ℕ → ℕ) (budget : Budget) →
+  pub body_is : (x : ℕ → ℕ) (budget : Budget) →
       body_at x (place_of budget) ≡ sum_in inside x blocks budget
   body_is x budget =
       upto_same blocks

@@ -1,9 +1,10 @@
 -- What stands of a choice, from the certificate of the walk that made it.
-use Rattle.std.proofs.Common.{ℕ, ◌≡◌, ◌+◌, ◌<◌, ◌≤◌, if◌then◌else◌, List, length, get_or, is_some}
-use Rattle.std.proofs.Common.{Some, sym, subst, ap, ◌∙◌, arith}
+use Rattle.std.proofs.Common.{ℕ, ◌≡◌, ◌+◌, ◌*◌, ◌<◌, ◌≤◌, if◌then◌else◌, List, length, get_or}
+use Rattle.std.proofs.Common.{is_some, map, sum, Some, sym, subst, ap, ◌∙◌, arith}
 use Rattle.std.proofs.lemmas.List.{length-replicate}
 use Rattle.cine_nums.specs.Limits.{has_inner}
 use Rattle.cine_nums.specs.declared.budget.Budget.{Budget}
+use Rattle.cine_nums.specs.declared.budget.Budget.TheVariants.{Frame, Inner, C0, C1, C2}
 use Rattle.cine_nums.specs.declared.orient.Orient.TheVariants.{LL}
 use Rattle.band_geometry.specs.Bands.{IsBlock}
 use Rattle.band_geometry.specs.Counts.{number_of}
@@ -14,13 +15,16 @@ use Rattle.rd_hulls.specs.Hull.{IsHull}
 use Rattle.rd_hulls.specs.Points.{ArePoints, point_at}
 use Rattle.rd_hulls.specs.declared.point.Point.{Point}
 use Rattle.rd_hulls.specs.declared.step.Step.{Step}
-use Rattle.allocation_bound.specs.Passes.{term}
+use Rattle.allocation_bound.specs.Ledger as ledgers
+use Rattle.allocation_bound.specs.Ledger.{IsGap, Ledger, body_of, distortion, least_terms}
+use Rattle.allocation_bound.specs.Passes.{IsLeastTerm, pass_ledger, term}
 use Rattle.allocation_bound.specs.Settled.{block_rate}
-use Rattle.allocation_bound.specs.Sums.{upto}
+use Rattle.allocation_bound.specs.Steps.{scale}
+use Rattle.allocation_bound.specs.Sums.{total, upto}
 use Rattle.allocation_bound.proofs.SumLemmas.{upto_same}
 use Rattle.budget_duals.specs.Certified.{IsCertificate}
-use Rattle.budget_duals.specs.Frame.{AreMembers}
-use Rattle.budget_duals.specs.Held.{IsWithin, held_in, limit_in}
+use Rattle.budget_duals.specs.Frame.{AreMembers, limit_each}
+use Rattle.budget_duals.specs.Held.{IsWithin, held_in, limit_in, place_of}
 use Rattle.budget_duals.specs.Members.{is_in}
 use Rattle.budget_duals.specs.Walking.{so_far}
 use Rattle.budget_duals.specs.declared.certificate.Certificate.{Certificate}
@@ -32,15 +36,36 @@ use Rattle.frame_choice.specs.Blocks.{block_numbered, inside_at, point_of, point
 use Rattle.frame_choice.specs.Choice.{FitsBesideHeaders, IsChoice, block_bytes, block_distortion}
 use Rattle.frame_choice.specs.Choice.{block_passes, body_bytes, held_at, no_passes}
 use Rattle.frame_choice.specs.Chosen.{IsChosen, choice_budgets, undecoded}
+use Rattle.frame_choice.specs.Gap.{AreLeastTerms, IsGapAbove, held_worth, limit_worth}
 use Rattle.frame_choice.specs.NumberLaws.{block_is, is_block, number_below, number_is}
+use Rattle.frame_choice.specs.Refused.{all_budgets, multiplier_in, rate_in}
 use Rattle.frame_choice.proofs.Bounds.{dist_at, distortion_is, gap_is, least, len_at, listed}
 use Rattle.frame_choice.proofs.Bounds.{promise, rivals_are, terms}
-use Rattle.frame_choice.proofs.BudgetSums.{sum_in}
+use Rattle.frame_choice.proofs.BudgetSums.{body_is, sum_in}
 use Rattle.frame_choice.proofs.HullLemmas.{point_is, points_long}
 use Rattle.frame_choice.proofs.Members.{are_members}
 use Rattle.frame_choice.proofs.NoPasses.{zero_at}
-use Rattle.frame_choice.proofs.RefusedSteps.{all_refused, itself_fits, listed_budgets}
+use Rattle.frame_choice.proofs.RefusedSteps.{all_refused, held_is, itself_fits}
+use Rattle.frame_choice.proofs.RefusedSteps.{listed_budgets, place_below, rate_is}
 use Rattle.frame_choice.proofs.Sums.{listed_sum}
+
+-- ---- sums
+
+five_sum : (f : ℕ → ℕ) (h : Budget → ℕ) → ((j : Budget) → f (place_of j) ≡ h j) →
+    upto 5 f ≡ total h all_budgets
+five_sum f h same =
+    let frame : f 0 ≡ h Frame = same Frame in
+    let inner : f 1 ≡ h Inner = same Inner in
+    let c0 : f 2 ≡ h C0 = same C0 in
+    let c1 : f 3 ≡ h C1 = same C1 in
+    let c2 : f 4 ≡ h C2 = same C2 in
+    let e : 0 + f 0 + f 1 + f 2 + f 3 + f 4
+    ≡ h Frame + (h Inner + (h C0 + (h C1 + (h C2 + 0)))) = omega arith in
+    e
+
+bound_in : (d l t h e m u i k : ℕ) → d ≡ e → l ≡ m → t ≡ u → h ≡ i →
+    scale * d + l ≤ t + h + scale * k → scale * e + m ≤ u + i + scale * k
+bound_in d l t h e m u i k a b c f below = omega arith
 
 -- ---- a choice by the numbers of its blocks
 
@@ -187,15 +212,97 @@ module _ (g : Geometry) (steps : StepSizes) (planes : Planes) where
         counts done left (undecoded g planes) c members are hulls h).chosen n below k
         (omega (arith, most, long))))
 
+    -- ---- by the multipliers of the certificate
+
+    same_rate : (n : ℕ) → n < blocks → rate n ≡ rate_in g c.multipliers (block_numbered g n)
+    same_rate n below =
+        rate_is g steps planes limits counts hull_steps done left c inner are hulls choice h n below
+
     near : (b : BlockId) → IsBlock g b → (k : ℕ) → k ≤ block_passes g planes b →
-        term (rate (number_of g b)) (point_of g steps planes b (listed counts (number_of g b)))
-        ≤ term (rate (number_of g b)) (point_of g steps planes b k) + 131072
+        term (rate_in g c.multipliers b) (point_of g steps planes b (chosen_passes g counts b))
+        ≤ term (rate_in g c.multipliers b) (point_of g steps planes b k) + 131072
     near b block k =
         subst (λ (x : BlockId). k ≤ block_passes g planes x →
-        term (rate (number_of g b)) (point_of g steps planes x (listed counts (number_of g b)))
-        ≤ term (rate (number_of g b)) (point_of g steps planes x k) + 131072)
+        term (rate_in g c.multipliers x) (point_of g steps planes x (chosen_passes g counts b))
+        ≤ term (rate_in g c.multipliers x) (point_of g steps planes x k) + 131072)
         (block_is g b block)
-        (near_at (number_of g b) k (number_below g b block))
+        (λ most. subst (λ m. term m
+        (point_of g steps planes (block_numbered g (number_of g b)) (chosen_passes g counts b))
+        ≤ term m (point_of g steps planes (block_numbered g (number_of g b)) k) + 131072)
+        (same_rate (number_of g b) (number_below g b block))
+        (near_at (number_of g b) k (number_below g b block) most))
+
+    abbrev least_at : ℕ → ℕ
+    least_at = least limits blocks (inside_at g) (held_at g steps planes) points_at hull_steps
+        counts done left (undecoded g planes) c members are hulls h
+
+    abbrev least_of : BlockId → ℕ
+    least_of b = least_at (number_of g b)
+
+    terms_are : AreLeastTerms g steps planes c.multipliers least_of
+    terms_are b block =
+        subst (λ (x : BlockId). IsLeastTerm (points_of g steps planes x)
+        (rate_in g c.multipliers x) (least_of b)) (block_is g b block)
+        (subst (λ m. IsLeastTerm (points_at (number_of g b)) m (least_of b))
+        (same_rate (number_of g b) (number_below g b block))
+        (terms limits blocks (inside_at g) (held_at g steps planes) points_at hull_steps counts
+        done left (undecoded g planes) c members are hulls h (number_of g b)
+        (number_below g b block)))
+
+    abbrev bound : Ledger
+    bound = pass_ledger (choice_budgets g steps planes limits) points_at least_at
+        (so_far counts done left h.closed)
+
+    least_sum : sum (map least_of (all_blocks g)) ≡ least_terms bound
+    least_sum =
+        listed_sum (record { component = 0; res = 0; orient = LL; x = 0; y = 0 }) least_of
+        (all_blocks g)
+        ∙ upto_same blocks (λ n. least_of (block_numbered g n)) least_at
+        (λ n below. ap least_at (number_is g n below))
+
+    same_held : ledgers.held_worth bound ≡ held_worth g steps planes counts c.multipliers
+    same_held =
+        five_sum (λ j. bound.multipliers j * bound.held j)
+        (λ j. multiplier_in c.multipliers j * held_in (held_at g steps planes counts) j)
+        (λ j. ap (λ m. m * bound.held (place_of j))
+        (sym (h.multipliers (place_of j) (place_below j)))
+        ∙ ap (λ n. multiplier_in c.multipliers j * n)
+        (held_is (held_at g steps planes counts) j))
+
+    same_limit : ledgers.limit_worth bound
+        ≡ limit_worth g steps planes limits counts c.multipliers
+    same_limit =
+        five_sum (λ j. bound.multipliers j * (bound.limit j + body_of bound bound.bytes j))
+        (λ j. multiplier_in c.multipliers j
+        * (get_or (limit_each limits) (place_of j) 0 + body_bytes g steps planes counts j))
+        (λ j. ap (λ m. m * (bound.limit (place_of j) + body_of bound bound.bytes (place_of j)))
+        (sym (h.multipliers (place_of j) (place_below j)))
+        ∙ ap (λ n. multiplier_in c.multipliers j
+        * (get_or (limit_each limits) (place_of j) 0 + n))
+        (body_is limits blocks (inside_at g) members (len_at points_at (listed counts)) j
+        ∙ sym (body_by_number counts choice j)))
+
+    gap_above : IsGapAbove g steps planes limits counts c.multipliers least_of c.gap
+    gap_above =
+        let is : IsGap bound c.gap =
+        gap_is limits blocks (inside_at g) (held_at g steps planes) points_at hull_steps counts done
+        left (undecoded g planes) c members are hulls h in
+        let own = distortion_by_number counts choice in
+        record {
+          enough = bound_in (distortion bound) (ledgers.limit_worth bound) (least_terms bound)
+              (ledgers.held_worth bound) (choice_distortion g planes counts)
+              (limit_worth g steps planes limits counts c.multipliers)
+              (sum (map least_of (all_blocks g)))
+              (held_worth g steps planes counts c.multipliers) c.gap (sym own) same_limit
+              (sym least_sum) same_held is.enough;
+          smallest = λ k below. is.least k
+              (bound_in (choice_distortion g planes counts)
+              (limit_worth g steps planes limits counts c.multipliers)
+              (sum (map least_of (all_blocks g)))
+              (held_worth g steps planes counts c.multipliers) (distortion bound)
+              (ledgers.limit_worth bound) (least_terms bound) (ledgers.held_worth bound) k own
+              (sym same_limit) least_sum (sym same_held) below);
+        }
 
     pub is_chosen : IsWithin limits (held_at g steps planes counts) →
         IsChosen g steps planes limits counts c
@@ -210,12 +317,9 @@ module _ (g : Geometry) (steps : StepSizes) (planes : Planes) where
       done = done;
       left = left;
       certificate = h;
-      least = least limits blocks (inside_at g) (held_at g steps planes) points_at hull_steps
-          counts done left (undecoded g planes) c members are hulls h;
-      terms = terms limits blocks (inside_at g) (held_at g steps planes) points_at hull_steps
-          counts done left (undecoded g planes) c members are hulls h;
-      gap = gap_is limits blocks (inside_at g) (held_at g steps planes) points_at hull_steps
-          counts done left (undecoded g planes) c members are hulls h;
+      least = least_of;
+      terms = terms_are;
+      gap = gap_above;
       chosen = near;
       refused = all_refused g steps planes limits counts hull_steps done left c inner are hulls
           choice h;

@@ -20,7 +20,7 @@ use Rattle.rd_hulls.specs.declared.point.Point.{Point}
 use Rattle.rd_hulls.specs.declared.step.Step.{Step}
 use Rattle.allocation_bound.specs.Budgets.{chain}
 use Rattle.allocation_bound.specs.Refused.{IsRefused, grow, price}
-use Rattle.allocation_bound.specs.Settled.{Budgets, Outcome, multiplier_of}
+use Rattle.allocation_bound.specs.Settled.{Budgets, Outcome, block_rate, multiplier_of}
 use Rattle.allocation_bound.specs.Sums.{total}
 use Rattle.allocation_bound.proofs.Levels.{multiplier_open}
 use Rattle.budget_duals.specs.Certified.{IsCertificate}
@@ -29,7 +29,7 @@ use Rattle.budget_duals.specs.Frame.{refused_one, refused_steps}
 use Rattle.budget_duals.specs.Held.{IsWithin, held_in, limit_in, place_of}
 use Rattle.budget_duals.specs.Members.{is_in}
 use Rattle.budget_duals.specs.Numbered.{bytes_in, node_by, node_in}
-use Rattle.budget_duals.specs.Tree.{closed_by, number_at}
+use Rattle.budget_duals.specs.Tree.{closed_by}
 use Rattle.budget_duals.specs.Walking.{so_far}
 use Rattle.budget_duals.specs.declared.certificate.Certificate.{Certificate}
 use Rattle.budget_duals.specs.declared.certificate.RefusedStep.{RefusedStep}
@@ -40,11 +40,12 @@ use Rattle.budget_duals.proofs.FrameLemmas.{named_on}
 use Rattle.dz_quantiser.specs.declared.steps.StepSizes.{StepSizes}
 use Rattle.profile_reader.specs.Chosen.{Planes, chosen_passes}
 use Rattle.frame_choice.specs.Blocks.{block_numbered, inside_at, point_of, points_of}
-use Rattle.frame_choice.specs.Choice.{FitsBesideHeaders, IsChoice, block_passes, body_bytes}
+use Rattle.frame_choice.specs.Choice.{FitsBesideHeaders, IsChoice, block_passes}
 use Rattle.frame_choice.specs.Choice.{held_at}
 use Rattle.frame_choice.specs.Chosen.{choice_budgets, undecoded}
 use Rattle.frame_choice.specs.NumberLaws.{is_block, number_is}
 use Rattle.frame_choice.specs.Refused.{IsRefusedStep, all_budgets, budgets_of, multiplier_in}
+use Rattle.frame_choice.specs.Refused.{rate_in}
 use Rattle.frame_choice.proofs.Bounds.{promise}
 use Rattle.frame_choice.proofs.HullLemmas.{point_is, points_long}
 use Rattle.frame_choice.proofs.Members.{are_members}
@@ -139,14 +140,14 @@ budgets_listed w o p each =
 
 -- ---- budgets by name and by number
 
-held_is : (h : Held) (budget : Budget) → bytes_in h (place_of budget) ≡ held_in h budget
+pub held_is : (h : Held) (budget : Budget) → bytes_in h (place_of budget) ≡ held_in h budget
 held_is h Frame = refl
 held_is h Inner = refl
 held_is h C0 = refl
 held_is h C1 = refl
 held_is h C2 = refl
 
-place_below : (budget : Budget) → place_of budget < 5
+pub place_below : (budget : Budget) → place_of budget < 5
 place_below Frame = omega arith
 place_below Inner = omega arith
 place_below C0 = omega arith
@@ -271,10 +272,9 @@ module _ (g : Geometry) (steps : StepSizes) (planes : Planes) (limits : Limits) 
         (subst (λ p. IsStepTo s.block (point_at (points_at b) s.from) p s)
         (point_is g steps planes (block_numbered g b) s.to to) hull.step)
 
-    slope_is : (b : ℕ) → b < blocks →
-        total (multiplier_of w o) (chain (around_of limits.inner) (node_in (inside_at g b)))
-        ≡ total (multiplier_in c.multipliers) (budgets_of g (block_numbered g b))
-    slope_is b below =
+    pub rate_is : (b : ℕ) → b < blocks →
+        block_rate w o b ≡ rate_in g c.multipliers (block_numbered g b)
+    rate_is b below =
         sum_of (multiplier_of w o) limits.inner (inside_at g b) (members b below)
         ∙ total_same (λ j. multiplier_of w o (place_of j)) (multiplier_in c.multipliers)
         (λ j. sym (h.multipliers (place_of j) (place_below j)))
@@ -323,7 +323,7 @@ module _ (g : Geometry) (steps : StepSizes) (planes : Planes) (limits : Limits) 
               ∙ ap (λ n. held_in new budget - (n + s.len))
               (held_is (held_at g steps planes counts) budget);
           price_is = refl;
-          slope = sym is.slope ∙ slope_is s.block is.inside;
+          slope = sym is.slope ∙ rate_is s.block is.inside;
         }
 
     pub all_refused : All (IsRefusedStep g steps planes limits counts c.multipliers)

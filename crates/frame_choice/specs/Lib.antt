@@ -10,5 +10,7 @@ pub mod PriceLaws
 pub mod Hulls
 -- The steps that budgets refuse.
 pub mod Refused
+-- The bound of multipliers, and the gap.
+pub mod Gap
 -- What stands of a choice and its certificate.
 pub mod Chosen

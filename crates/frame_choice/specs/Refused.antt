@@ -34,6 +34,10 @@ budgets_of g b = filter (is_in (block_members g b)) all_budgets
 abbrev pub multiplier_in : List ℕ → Budget → ℕ
 multiplier_in multipliers budget = number_at multipliers (place_of budget)
 
+-- the sum of the multipliers of a block's budgets
+abbrev pub rate_in : Geometry → List ℕ → BlockId → ℕ
+rate_in g multipliers b = total (multiplier_in multipliers) (budgets_of g b)
+
 -- A step that a budget refused: from the chosen number of passes of one of its blocks to another
 -- one. With the step taken, the budget would hold more than its limit.
 pub record IsRefusedStep (g : Geometry) (steps : StepSizes) (planes : Planes) (limits : Limits)
@@ -63,4 +67,4 @@ pub record IsRefusedStep (g : Geometry) (steps : StepSizes) (planes : Planes) (l
   pub price_is : r.price ≡ price r.step r.grow
   -- 2^32 times the gain for a byte, rounded down, is the sum of the multipliers of the block's
   -- budgets
-  pub slope : level r.step ≡ total (multiplier_in multipliers) (budgets_of g block)
+  pub slope : level r.step ≡ rate_in g multipliers block
