@@ -6,7 +6,7 @@ use Rattle.std.proofs.lemmas.Slice.Eq.{bytes_eq-Decides}
 use Rattle.cine_nums.specs.declared.profile.Profile.{Profile}
 use Rattle.frame_encoder.specs.declared.order.EncodeOrder.{EncodeOrder}
 use Rattle.encode_cli.specs.Arguments.{texts, encode_words, AreCommand, IsEncode}
-use Rattle.encode_cli.specs.ReportLine.{profile_word}
+use Rattle.cert_text.specs.Words.{profile_word}
 
 -- a list of five is its five items
 five_items : {A : Type 0} (xs : List A) (a b c d e : A) → 5 ≤ length xs → length xs < 6 →

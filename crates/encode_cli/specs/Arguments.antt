@@ -4,7 +4,7 @@ use Rattle.std.specs.Prelude.{codes}
 use Rattle.budget_duals.specs.Held.{limits_of}
 use Rattle.cine_nums.specs.declared.profile.Profile.{Profile}
 use Rattle.frame_encoder.specs.declared.order.EncodeOrder.{EncodeOrder}
-use Rattle.encode_cli.specs.ReportLine.{profile_word}
+use Rattle.cert_text.specs.Words.{profile_word}
 use Rattle.encode_cli.specs.declared.arguments.FolderWords.{FolderWords}
 
 -- the bytes of each word

@@ -10,19 +10,20 @@ use Rattle.pnm_frames.specs.Picture.{Picture}
 use Rattle.pnm_frames.specs.Reading.{frame_of}
 use Rattle.frame_encoder.specs.declared.order.EncodeOrder.{EncodeOrder}
 use Rattle.frame_encoder.specs.Encoded.{Encoding, Encodes}
-use Rattle.encode_cli.specs.ReportLine.{ok_line, refused_line}
+use Rattle.cert_text.specs.Lines.{cert_line}
+use Rattle.cert_text.specs.declared.cert_line.CertLine.{CertLine}
+use Rattle.encode_cli.specs.ReportLine.{IsCertOf, refused_line}
 use Rattle.encode_cli.specs.Visit.{Visit}
 
 -- the largest frame of a profile
 abbrev pub sizes_of : Profile → SizeLimits
 sizes_of profile = record { width = max_width_of profile; height = max_height_of profile }
 
--- the visit of a frame with this name that is encoded so: the output has the frame's name and the
--- suffix
-abbrev pub accepted : EncodeOrder → List ℕ → List ℕ → Picture → Encoding → Visit
-accepted order suffix name p e = record {
-  output = Some (record { name = name ++ suffix; bytes = e.bytes });
-  line = ok_line order name p.width p.height e;
+-- the visit of a frame whose output has this name and these bytes, and whose line says this
+abbrev pub accepted : List ℕ → List ℕ → CertLine → Visit
+accepted name bytes says = record {
+  output = Some (record { name = name; bytes = bytes });
+  line = cert_line says;
   refused = false;
 }
 
@@ -30,12 +31,15 @@ accepted order suffix name p e = record {
 abbrev pub refused : List ℕ → FrameFault → Visit
 refused name fault = record { output = None; line = refused_line name fault; refused = true }
 
--- The visit is that of some right encoding of the picture.
+-- The visit is that of some right encoding of the picture: its output is the codestream, under the
+-- frame's name and the suffix, and its line is the certificate line of that same encoding.
 pub record IsAccepted (order : EncodeOrder) (suffix name : List ℕ) (p : Picture)
     (visit : Visit) : Type 0 where
   pub encoding : Encoding
   pub encodes : Encodes order p encoding
-  pub is : visit ≡ accepted order suffix name p encoding
+  pub says : CertLine
+  pub certifies : IsCertOf order name p encoding says
+  pub is : visit ≡ accepted (name ++ suffix) encoding.bytes says
 
 -- The visit is right for a frame with this name whose file spells this picture or has this first
 -- fault.

@@ -2,7 +2,7 @@
 ghost use Rattle.std.specs.Prelude.{◌≡◌, MatchOption, IfOk, IfSome, IfNone};
 ghost use Rattle.encode_cli.specs.Arguments.{texts, encode_words, AreCommand, IsEncode};
 ghost use Rattle.encode_cli.specs.Arguments.{AreFoldersOf};
-ghost use Rattle.encode_cli.specs.ReportLine.{profile_word};
+ghost use Rattle.cert_text.specs.Words.{profile_word};
 ghost use Rattle.cine_nums.specs.declared.profile.Profile.{Profile};
 
 use cine_nums::Profile;

@@ -1,6 +1,6 @@
 // What is written and reported of one frame.
-ghost use Rattle.std.specs.Prelude.{Option, ◌≡◌, ◌≤◌, ◌++◌, Ok, Err, [], false, map, option_map};
-ghost use Rattle.std.specs.Prelude.{Contains, OnOk, OnErr, IfOk, string_bytes};
+ghost use Rattle.std.specs.Prelude.{Option, ◌≡◌, ◌<◌, ◌≤◌, ◌^◌, ◌++◌, Ok, Err, [], false, map};
+ghost use Rattle.std.specs.Prelude.{option_map, length, Contains, OnOk, OnErr, IfOk, string_bytes};
 ghost use Rattle.std.specs.Option.{ForSome};
 ghost use Rattle.budget_duals.specs.Held.{limits_of};
 ghost use Rattle.cine_nums.specs.Profile.{max_height_of, max_width_of};
@@ -15,8 +15,9 @@ ghost use Rattle.encode_cli.specs.Right.{refused, RightFor};
 ghost use Rattle.encode_cli.specs.Progress.{VisitBrokeOff};
 
 use crate::output::write_output;
-use crate::report_line::{ok_line, refused_line};
+use crate::report_line::{certified, refused_line};
 use crate::stop::Stop;
+use cert_text::write_cert;
 use cine_ports::{Outputs, Report, say};
 use frame_encoder::{EncodeOrder, EncodeRefusal, Encoded, encode};
 use pnm_frames::{Frame, FrameFault};
@@ -37,8 +38,9 @@ fn encoded(alloc: Global, frame: &Frame, order: &EncodeOrder) -> Result<Encoded,
     requires some_height { 1 ≤ frame.now.height }
     requires height { frame.now.height ≤ max_height_of order.now.profile }
     requires limits { order.now.limits ≡ limits_of order.now.profile }
-    ensures { IfOk result (λ made.
+    ensures encodes { IfOk result (λ made.
         Encodes order.now (picture_of frame.now) (encoding_of made)) }
+    ensures few { IfOk result (λ made. length made.choice.items < 2 ^ 32) }
 {
     match encode(alloc, frame, order) {
         Ok(made) => Ok(made),
@@ -48,7 +50,7 @@ fn encoded(alloc: Global, frame: &Frame, order: &EncodeOrder) -> Result<Encoded,
 }
 
 /// Writes the codestream of a frame as the order asks for it, under the frame's name and the
-/// suffix, and then reports its line.
+/// suffix, and then reports its certificate line.
 pub fn write_frame<O: Outputs, S: Report>(
     alloc: Global,
     order: &EncodeOrder,
@@ -83,8 +85,9 @@ pub fn write_frame<O: Outputs, S: Report>(
 {
     let output = output_name(alloc, name, suffix)?;
     let made = encoded(alloc, frame, order)?;
-    let line = ok_line(alloc, order, name, frame.width, frame.height, &made)?;
-    match write_output(outputs, output.as_str(), made.bytes.as_slice()) {
+    let (bytes, says) = certified(alloc, order, name, frame, made)?;
+    let line = write_cert(alloc, &says)?;
+    match write_output(outputs, output.as_str(), bytes.as_slice()) {
         Ok(()) => {}
         Err(fault) => return Err(Stop::of_outputs(fault)),
     }
