@@ -20,7 +20,22 @@ fn visited_status(some_refused: bool) -> u8
 }
 
 /// Encodes each frame of a source: its codestream goes to the outputs under the frame's name and
-/// `.j2c`, and then its line to the report. A frame that is refused has a line alone.
+/// `.j2c`, and then its certificate line to the report. A frame that is refused has a line alone.
+///
+/// For every accepted frame, unless source, outputs, report or memory fail, `visited` promises (each
+/// sentence is the field in brackets, of `Encodes` in frame_encoder/specs/Encoded.antt):
+///
+/// - The output is a codestream of the named profile, that of the chosen coding passes (`bytes`),
+/// - within all byte limits, headers included (`held`, `limits`),
+/// - whose decoding gives every coefficient's sign and bits for exactly the chosen passes (`reads`,
+///   `decodes`).
+/// - No choice of passes whose body bytes fit beside the written headers has a distortion below the
+///   chosen one's less the gap (`choice`, `distortion`, `rivals`).
+/// - The gap is at most the prices of the refused steps together and 1 (`refused_steps`), and 0
+///   where no budget has a multiplier (`no_multiplier`).
+/// - The line prints what is held and its limits, the number of chosen passes, the distortions, the
+///   multipliers, the gap and the refused steps of that same encoding (`certifies` of `IsAccepted`
+///   in specs/Right.antt, with `IsCertOf` in specs/ReportLine.antt).
 ///
 /// Returns the status: 0 where all frames were visited and none was refused, 1 where all were and
 /// some was, 2 where the arguments are no command, 3, 4 and 5 where a call of the source, the
@@ -49,8 +64,9 @@ pub fn run<F: Frames, O: Outputs, S: Report>(
         (frames.new ≡ frames.old) × (outputs.new ≡ outputs.old) × (report.new ≡ report.old) }
 
     // Status 0 or 1: every frame has a right visit, with its output and its line, in order, and
-    // nothing is unfinished. What is said by the listed names holds of a real folder too, and what
-    // is said by the files where they are known.
+    // nothing is unfinished. A visit of an accepted frame is right only if it is that of an
+    // encoding with all that is promised above. What is said by the listed names holds of a real
+    // folder too, and what is said by the files where they are known.
     ensures visited { result ≤ 1 → (order : EncodeOrder) × IsEncode (texts words.now) order
         × Leaves (RightByName order codestream_suffix) (Right order codestream_suffix)
         (F.source frames.new) (O.kept outputs.new) (S.said report.new) result }

@@ -51,22 +51,22 @@ const CODESTREAM: &[u8] = &[
 
 /// The line of a grey frame called `a`.
 const LINE: &str =
-    "ok a 2k 1x1 frame=191/1302083/0 c0=20/1041666/0 c1=20/1041666/0 c2=20/1041666/0 passes=0 empty=0 distortion=0\n";
+    "ok a 2k 1x1 frame=191/1302083/0 c0=20/1041666/0 c1=20/1041666/0 c2=20/1041666/0 passes=0 empty=0 distortion=0 gap=0\n";
 
 /// The lines of a grey frame, a frame of 16 bits a sample, a grey frame, and one with a sample too
 /// large.
 const LINES: &str = "\
-ok a 2k 1x1 frame=191/1302083/0 c0=20/1041666/0 c1=20/1041666/0 c2=20/1041666/0 passes=0 empty=0 distortion=0\n\
+ok a 2k 1x1 frame=191/1302083/0 c0=20/1041666/0 c1=20/1041666/0 c2=20/1041666/0 passes=0 empty=0 distortion=0 gap=0\n\
 refused e 4 WrongMaxval\n\
-ok f%7E 2k 1x1 frame=191/1302083/0 c0=20/1041666/0 c1=20/1041666/0 c2=20/1041666/0 passes=0 empty=0 distortion=0\n\
+ok f%7E 2k 1x1 frame=191/1302083/0 c0=20/1041666/0 c1=20/1041666/0 c2=20/1041666/0 passes=0 empty=0 distortion=0 gap=0\n\
 refused g 7 SampleTooLarge 12\n";
 
 /// The lines of a white, a black and a nearly grey frame. They come from a program that shares no
 /// code with this one, and so does the codestream of the last.
 const PASSES: &str = "\
-ok b 2k 1x1 frame=197/1302083/0 c0=26/1041666/0 c1=20/1041666/0 c2=20/1041666/0 passes=49 empty=68652908289 distortion=0\n\
-ok c 2k 1x1 frame=195/1302083/0 c0=24/1041666/0 c1=20/1041666/0 c2=20/1041666/0 passes=52 empty=68720001025 distortion=0\n\
-ok d 2k 1x1 frame=195/1302083/0 c0=24/1041666/0 c1=20/1041666/0 c2=20/1041666/0 passes=19 empty=16641 distortion=0\n";
+ok b 2k 1x1 frame=197/1302083/0 c0=26/1041666/0 c1=20/1041666/0 c2=20/1041666/0 passes=48 empty=68652908289 distortion=0 gap=0\n\
+ok c 2k 1x1 frame=195/1302083/0 c0=24/1041666/0 c1=20/1041666/0 c2=20/1041666/0 passes=51 empty=68720001025 distortion=0 gap=0\n\
+ok d 2k 1x1 frame=195/1302083/0 c0=24/1041666/0 c1=20/1041666/0 c2=20/1041666/0 passes=18 empty=16641 distortion=0 gap=0\n";
 
 /// What follows the first 108 bytes of a nearly grey frame's codestream, from the TLM segment on.
 #[rattlefmt::skip]
@@ -74,7 +74,7 @@ const NEARLY_GREY_PARTS: &[u8] = &[
     0xFF, 0x55, 0x00, 0x13, 0x00, 0x50, 0x00, 0x00, 0x00, 0x00, 0x18, 0x00, 0x00, 0x00, 0x00, 0x14,
     0x00, 0x00, 0x00, 0x00, 0x14,
     0xFF, 0x90, 0x00, 0x0A, 0x00, 0x00, 0x00, 0x00, 0x00, 0x18, 0x00, 0x03, 0xFF, 0x93,
-    0xC0, 0x07, 0xDA, 0x02, 0x04, 0, 0, 0, 0, 0,
+    0xC0, 0x07, 0xD8, 0x02, 0x04, 0, 0, 0, 0, 0,
     0xFF, 0x90, 0x00, 0x0A, 0x00, 0x00, 0x00, 0x00, 0x00, 0x14, 0x01, 0x03, 0xFF, 0x93, 0, 0, 0, 0, 0, 0,
     0xFF, 0x90, 0x00, 0x0A, 0x00, 0x00, 0x00, 0x00, 0x00, 0x14, 0x02, 0x03, 0xFF, 0x93, 0, 0, 0, 0, 0, 0,
     0xFF, 0xD9,
@@ -253,9 +253,9 @@ fn run_between(
 
 /// The lines of a grey frame of one pixel, of the largest of the profile, and of one of odd sides.
 const SIZES: &str = "\
-ok a 2k 1x1 frame=191/1302083/0 c0=20/1041666/0 c1=20/1041666/0 c2=20/1041666/0 passes=0 empty=0 distortion=0\n\
-ok large 2k 2048x1080 frame=350/1302083/0 c0=73/1041666/0 c1=73/1041666/0 c2=73/1041666/0 passes=0 empty=0 distortion=0\n\
-ok odd 2k 129x257 frame=194/1302083/0 c0=21/1041666/0 c1=21/1041666/0 c2=21/1041666/0 passes=0 empty=0 distortion=0\n";
+ok a 2k 1x1 frame=191/1302083/0 c0=20/1041666/0 c1=20/1041666/0 c2=20/1041666/0 passes=0 empty=0 distortion=0 gap=0\n\
+ok large 2k 2048x1080 frame=350/1302083/0 c0=73/1041666/0 c1=73/1041666/0 c2=73/1041666/0 passes=0 empty=0 distortion=0 gap=0\n\
+ok odd 2k 129x257 frame=194/1302083/0 c0=21/1041666/0 c1=21/1041666/0 c2=21/1041666/0 passes=0 empty=0 distortion=0 gap=0\n";
 
 /// A file of this header and so many grey pixels.
 fn grey(alloc: Global, header: &[u8], pixels: u32) -> Result<Vec<u8>, AllocError> {
@@ -296,8 +296,8 @@ fn folder_to_folder(rt: HostRuntime) -> Result<(), Fail> {
 
 /// The lines of a grey frame of one pixel and of the largest of the 4K profile.
 const SIZES_OF_4K: &str = "\
-ok a 4k 1x1 frame=276/1302083/0 inner=231/1302083/0 c0=20/1041666/0 c1=20/1041666/0 c2=20/1041666/0 passes=0 empty=0 distortion=0\n\
-ok large 4k 4096x2160 frame=864/1302083/0 inner=390/1302083/0 c0=73/1041666/0 c1=73/1041666/0 c2=73/1041666/0 passes=0 empty=0 distortion=0\n";
+ok a 4k 1x1 frame=276/1302083/0 inner=231/1302083/0 c0=20/1041666/0 c1=20/1041666/0 c2=20/1041666/0 passes=0 empty=0 distortion=0 gap=0\n\
+ok large 4k 4096x2160 frame=864/1302083/0 inner=390/1302083/0 c0=73/1041666/0 c1=73/1041666/0 c2=73/1041666/0 passes=0 empty=0 distortion=0 gap=0\n";
 
 #[test]
 fn folder_to_folder_in_4k(rt: HostRuntime) -> Result<(), Fail> {
