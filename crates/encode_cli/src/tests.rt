@@ -178,6 +178,61 @@ fn a_line_has_the_passes_and_the_distortions(rt: HostRuntime) -> Result<(), Fail
     Ok(())
 }
 
+/// The lines of two frames of noise of which not all passes fit: of a coloured one, which fills the
+/// limit of the codestream, and of a grey one, which fills that of component 0. They come from a
+/// program that shares no code with this one.
+const BUSY: &str = "\
+ok h 2k 600x600 frame=1301957/1302083/2109636267015 c0=435464/1041666/0 c1=430390/1041666/0 c2=435972/1041666/0 passes=33417 empty=10578747567622 distortion=57746446 gap=61890 step=frame:172:26:27:133:0:65328:65328\n\
+ok i 2k 900x900 frame=1041827/1302083/0 c0=1041620/1041666/2106019452450 c1=38/1041666/0 c2=38/1041666/0 passes=25133 empty=18772485155511 distortion=43063286 gap=22556 step=c0:754:26:27:133:0:65216:65216\n";
+
+/// A file of this header and so many pixels of noise, each grey or of any colour.
+fn noise(
+    alloc: Global,
+    header: &[u8],
+    pixels: u32,
+    is_grey: bool,
+) -> Result<Vec<u8>, AllocError> {
+    let mut bytes = Vec::from_slice(alloc, header)?;
+    let mut state: u32 = 1;
+    for _ in 0..pixels {
+        for plane in 0..3 {
+            if plane == 0 || !is_grey {
+                state = state.wrapping_mul(1664525).wrapping_add(1013904223);
+            }
+            bytes.push((state >> 28) as u8)?;
+            bytes.push((state >> 20 & 0xFF) as u8)?;
+        }
+    }
+    Ok(bytes)
+}
+
+/// A number that all bytes of a file make, by their places too.
+fn digest(bytes: &[u8]) -> u32 {
+    let mut sum: u32 = 0;
+    for byte in bytes {
+        sum = sum.wrapping_mul(31).wrapping_add(u32::from(*byte));
+    }
+    sum
+}
+
+#[test]
+fn a_busy_frame_has_multipliers_and_refused_steps(rt: HostRuntime) -> Result<(), Fail> {
+    let alloc = rt.alloc();
+    let mut files = Vec::new(alloc);
+    let coloured = noise(alloc, b"P6\n600 600\n4095\n", 600 * 600, false)?;
+    files.push(file(alloc, "h", coloured.as_slice())?)?;
+    let grey = noise(alloc, b"P6\n900 900\n4095\n", 900 * 900, true)?;
+    files.push(file(alloc, "i", grey.as_slice())?)?;
+    let ended = run_over(alloc, COMMAND, files, &[], &[])?;
+    assert_eq!(rt; ended.status, 0);
+    assert!(rt; ended.report.bytes() == BUSY.as_bytes());
+    let first = ended.outputs.files().get(0).ok_or("no output of h")?;
+    assert_eq!(rt; (first.bytes().len(), digest(first.bytes())), (1301957, 658802412));
+    let second = ended.outputs.files().get(1).ok_or("no output of i")?;
+    assert_eq!(rt; (second.bytes().len(), digest(second.bytes())), (1041827, 3253985087));
+    Ok(())
+}
+
 #[test]
 fn a_fault_of_the_outputs_ends_a_run(rt: HostRuntime) -> Result<(), Fail> {
     let alloc = rt.alloc();
