@@ -1,6 +1,6 @@
 -- No output of a run is longer than a codestream may be.
 use Rattle.std.proofs.Common.{◌≡◌, Bool, ℕ, ◌≤◌, List, [], ◌∷◌, ◌++◌, Option, Some, None, Result}
-use Rattle.std.proofs.Common.{Ok, Err, IfSome, length, take, option_map, refl, subst, sym, arith}
+use Rattle.std.proofs.Common.{Ok, Err, IfSome, length, take, refl, subst, sym, arith}
 use Rattle.std.specs.Option.{ForSome}
 use Rattle.std.specs.List.{flat_map, AllByRecursion}
 use Rattle.std.proofs.lemmas.List.{length-take}

@@ -1,5 +1,5 @@
 -- How a run goes on, frame by frame.
-use Rattle.std.proofs.Common.{◌≡◌, ℕ, zero, suc, ◌+◌, ◌≤◌, ◌||◌, ◌↔◌, if◌then◌else◌, Bool, true}
+use Rattle.std.proofs.Common.{◌≡◌, ℕ, zero, suc, ◌+◌, ◌||◌, ◌↔◌, if◌then◌else◌, Bool, true}
 use Rattle.std.proofs.Common.{false, List, [], ◌∷◌, ◌++◌, Option, Some, None, IsTrue, IfSome}
 use Rattle.std.proofs.Common.{length, map, take, slice_get, option_map, refl, sym, ◌∙◌, ap, subst}
 use Rattle.std.proofs.Common.{arith, add-one}
@@ -12,9 +12,9 @@ use Rattle.cine_ports.specs.Outputs.{Kept, kept_nothing}
 use Rattle.cine_ports.specs.Source.{File, Source}
 use Rattle.cine_ports.specs.WholePieces.{said_with}
 use Rattle.encode_cli.specs.Output.{kept_and}
-use Rattle.encode_cli.specs.Visit.{Visit, outputs_of, Point, Before, kept_at, said_at}
+use Rattle.encode_cli.specs.Visit.{Visit, outputs_of, Before, kept_at, said_at}
 use Rattle.encode_cli.specs.Progress.{kept_after, said_after, AreRight, IsRightAt, IsPointAt}
-use Rattle.encode_cli.specs.Progress.{IsVisitAt, AreVisitsOf, IsPointOf, FrameVisited}
+use Rattle.encode_cli.specs.Progress.{IsVisitAt, AreVisitsOf, FrameVisited}
 use Rattle.encode_cli.specs.Progress.{FrameBrokeOff, FramesVisited, FramesBrokeOff}
 use Rattle.encode_cli.specs.Run.{Leaves, RunBrokeOff}
 

@@ -1,6 +1,6 @@
 -- Which visits are right for a frame: what a run owes for it. The choice of an encoding is free
 -- among those that are right.
-use Rattle.std.specs.Prelude.{ℕ, ◌≡◌, ◌++◌, Some, None, true, false, List, Result, Ok, Err, codes}
+use Rattle.std.specs.Prelude.{ℕ, ◌≡◌, ◌++◌, Some, None, true, false, List, Result, Ok, Err}
 use Rattle.cine_nums.specs.Profile.{max_height_of, max_width_of}
 use Rattle.cine_nums.specs.declared.profile.Profile.{Profile}
 use Rattle.cine_ports.specs.Source.{File}
