@@ -32,7 +32,8 @@ fn visited_status(some_refused: bool) -> u8
 /// - No choice of passes whose body bytes fit beside the written headers has a distortion below the
 ///   chosen one's less the gap (`choice`, `distortion`, `rivals`).
 /// - The gap is at most the prices of the refused steps together and 1 (`refused_steps`), and 0
-///   where no budget has a multiplier (`no_multiplier`).
+///   where no budget has a multiplier (`no_multiplier`). Each of these steps is the next one of a
+///   block of a budget that it would break (`chosen`).
 /// - The line prints what is held and its limits, the number of chosen passes, the distortions, the
 ///   multipliers, the gap and the refused steps of that same encoding (`certifies` of `IsAccepted`
 ///   in specs/Right.antt, with `IsCertOf` in specs/ReportLine.antt).
