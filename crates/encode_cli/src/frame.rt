@@ -1,8 +1,10 @@
 // What is written and reported of one frame.
 ghost use Rattle.std.specs.Prelude.{Option, ◌≡◌, ◌<◌, ◌≤◌, ◌^◌, ◌++◌, Ok, Err, [], false, map};
-ghost use Rattle.std.specs.Prelude.{option_map, length, Contains, OnOk, OnErr, IfOk, string_bytes};
+ghost use Rattle.std.specs.Prelude.{ℕ, List, option_map, length, is_some, Contains, OnOk, OnErr};
+ghost use Rattle.std.specs.Prelude.{IfOk, string_bytes};
 ghost use Rattle.std.specs.Option.{ForSome};
 ghost use Rattle.budget_duals.specs.Held.{limits_of};
+ghost use Rattle.cine_nums.specs.Limits.{has_inner};
 ghost use Rattle.cine_nums.specs.Profile.{max_height_of, max_width_of};
 ghost use Rattle.cine_ports.specs.WholePieces.{said_with};
 ghost use Rattle.cine_ports.specs.Outputs.{Kept};
@@ -11,13 +13,13 @@ ghost use Rattle.frame_encoder.specs.Encoded.{Encodes, encoding_of};
 ghost use Rattle.encode_cli.specs.Output.{kept_and};
 ghost use Rattle.encode_cli.specs.Stop.{is_outputs_stop, is_report_stop, is_source_stop};
 ghost use Rattle.encode_cli.specs.Visit.{Visit, outputs_of};
-ghost use Rattle.encode_cli.specs.Right.{refused, RightFor};
+ghost use Rattle.encode_cli.specs.Right.{accepted, refused, IsAccepted, RightFor};
 ghost use Rattle.encode_cli.specs.Progress.{VisitBrokeOff};
 
 use crate::output::write_output;
 use crate::report_line::{certified, refused_line};
 use crate::stop::Stop;
-use cert_text::write_cert;
+use cert_text::{CertLine, write_cert};
 use cine_ports::{Outputs, Report, say};
 use frame_encoder::{EncodeOrder, EncodeRefusal, Encoded, encode};
 use pnm_frames::{Frame, FrameFault};
@@ -47,6 +49,29 @@ fn encoded(alloc: Global, frame: &Frame, order: &EncodeOrder) -> Result<Encoded,
         Err(EncodeRefusal::Memory) => Err(AllocError),
         Err(EncodeRefusal::LimitTooSmall(..)) => unreachable!(),
     }
+}
+
+/// The codestream of a frame as the order asks for it, and what its certificate line says.
+fn encode_and_certify(
+    alloc: Global,
+    order: &EncodeOrder,
+    name: &str,
+    frame: &Frame,
+) -> Result<(Vec<u8>, CertLine), AllocError>
+    requires some_width { 1 ≤ frame.now.width }
+    requires width { frame.now.width ≤ max_width_of order.now.profile }
+    requires some_height { 1 ≤ frame.now.height }
+    requires height { frame.now.height ≤ max_height_of order.now.profile }
+    requires limits { order.now.limits ≡ limits_of order.now.profile }
+    ensures accepted { IfOk result (λ found. (suffix : List ℕ) →
+        IsAccepted order.now suffix name.now (picture_of frame.now)
+        (accepted (name.now ++ suffix) found.0.items found.1)) }
+    ensures budgets { IfOk result (λ found.
+        is_some found.1.limits.inner ≡ has_inner found.1.profile) }
+{
+    let made = encoded(alloc, frame, order)?;
+    let (bytes, says) = certified(alloc, order, name, frame, made)?;
+    Ok((bytes, says))
 }
 
 /// Writes the codestream of a frame as the order asks for it, under the frame's name and the
@@ -84,8 +109,7 @@ pub fn write_frame<O: Outputs, S: Report>(
     ensures report_failed { S.has_failed report.new ≡ is_report_stop result }
 {
     let output = output_name(alloc, name, suffix)?;
-    let made = encoded(alloc, frame, order)?;
-    let (bytes, says) = certified(alloc, order, name, frame, made)?;
+    let (bytes, says) = encode_and_certify(alloc, order, name, frame)?;
     let line = write_cert(alloc, &says)?;
     match write_output(outputs, output.as_str(), bytes.as_slice()) {
         Ok(()) => {}

@@ -186,12 +186,7 @@ ok h 2k 600x600 frame=1301957/1302083/2109636267015 c0=435464/1041666/0 c1=43039
 ok i 2k 900x900 frame=1041827/1302083/0 c0=1041620/1041666/2106019452450 c1=38/1041666/0 c2=38/1041666/0 passes=25133 empty=18772485155511 distortion=43063286 gap=22556 step=c0:754:26:27:133:0:65216:65216\n";
 
 /// A file of this header and so many pixels of noise, each grey or of any colour.
-fn noise(
-    alloc: Global,
-    header: &[u8],
-    pixels: u32,
-    is_grey: bool,
-) -> Result<Vec<u8>, AllocError> {
+fn noise(alloc: Global, header: &[u8], pixels: u32, is_grey: bool) -> Result<Vec<u8>, AllocError> {
     let mut bytes = Vec::from_slice(alloc, header)?;
     let mut state: u32 = 1;
     for _ in 0..pixels {
@@ -227,9 +222,15 @@ fn a_busy_frame_has_multipliers_and_refused_steps(rt: HostRuntime) -> Result<(),
     assert_eq!(rt; ended.status, 0);
     assert!(rt; ended.report.bytes() == BUSY.as_bytes());
     let first = ended.outputs.files().get(0).ok_or("no output of h")?;
-    assert_eq!(rt; (first.bytes().len(), digest(first.bytes())), (1301957, 658802412));
+    assert_eq!(rt;
+        (first.bytes().len(), digest(first.bytes())),
+        (1301957, 658802412)
+    );
     let second = ended.outputs.files().get(1).ok_or("no output of i")?;
-    assert_eq!(rt; (second.bytes().len(), digest(second.bytes())), (1041827, 3253985087));
+    assert_eq!(rt;
+        (second.bytes().len(), digest(second.bytes())),
+        (1041827, 3253985087)
+    );
     Ok(())
 }
 

@@ -1,23 +1,12 @@
 use Rattle.std.proofs.Common.{◌≡◌, ◌++◌, ◌∙◌, ℕ, List, Option, Some, Ok, ap, sym}
-use Rattle.std.proofs.Common.{option_map, refl}
+use Rattle.std.proofs.Common.{option_map}
 use Rattle.cine_ports.specs.Source.{File}
 use Rattle.cine_ports.specs.WholePieces.{said_with}
 use Rattle.pnm_frames.specs.View.{picture_of}
-use Rattle.pnm_frames.specs.Picture.{Picture}
-use Rattle.cert_text.specs.declared.cert_line.CertLine.{CertLine}
-use Rattle.frame_encoder.specs.declared.order.EncodeOrder.{EncodeOrder}
-use Rattle.frame_encoder.specs.Encoded.{Encoding, Encodes, encoding_of}
-use Rattle.encode_cli.specs.ReportLine.{IsCertOf}
-use Rattle.encode_cli.specs.Right.{accepted, IsAccepted, RightFor}
+use Rattle.encode_cli.specs.Right.{accepted, RightFor}
 use Rattle.encode_cli.proofs.Breaks.{nothing_done, output_broken, output_made, line_broken}
 use Rattle.encode_cli.proofs.Outputs.{on_err}
 use Rattle.encode_cli.proofs.frame.write_frame.Goals as goal
-
-is_accepted : (order : EncodeOrder) (suffix name : List ℕ) (p : Picture) (e : Encoding)
-    (says : CertLine) → Encodes order p e → IsCertOf order name p e says →
-    IsAccepted order suffix name p (accepted (name ++ suffix) e.bytes says)
-is_accepted order suffix name p e says encodes certifies =
-    record { encoding = e; encodes = encodes; says = says; certifies = certifies; is = refl }
 
 -- the output, by the name and the bytes that were written
 abbrev output : List ℕ → List ℕ → Option File
@@ -38,33 +27,29 @@ returns-in_err-line-clause-err g c =
 pub returns-in-Err-clause-err : goal.returns-in-Err-clause-err
 returns-in-Err-clause-err g c =
     let p = picture_of c.args.frame.now in
-    let e = encoding_of c.in_ok-made.made in
+    let bytes = c.in_ok-bytes.bytes.items in
     let says = c.in_ok-bytes.says in
     output_broken (RightFor c.args.order.now c.args.suffix.now c.args.name.now (Ok p))
-    (accepted (c.args.name.now ++ c.args.suffix.now) e.bytes says)
+    (accepted (c.args.name.now ++ c.args.suffix.now) bytes says)
     c.as_str.result.now c.as_slice.result.now (g.O.Outputs.kept c.args.outputs.now)
     (g.O.Outputs.kept c.write_output.new.outputs) (g.S.Report.said c.args.report.now)
-    (is_accepted c.args.order.now c.args.suffix.now c.args.name.now p e says
-    c.in_ok-made.ensures.encodes c.in_ok-bytes.ensures.says)
-    (output_is c.args.name.now c.args.suffix.now c.as_slice.result.now e.bytes c.as_str.result.now
-    (c.as_str.ensures.value ∙ c.in_ok-output.ensures)
-    (c.as_slice.ensures.value ∙ c.in_ok-bytes.ensures.bytes))
+    (c.in_ok-bytes.ensures.accepted c.args.suffix.now)
+    (output_is c.args.name.now c.args.suffix.now c.as_slice.result.now bytes c.as_str.result.now
+    (c.as_str.ensures.value ∙ c.in_ok-output.ensures) c.as_slice.ensures.value)
     c.requires.at_rest c.in-Err.ensures.err
 
 pub returns-in-Ok-say-clause-ok : goal.returns-in-Ok-say-clause-ok
 returns-in-Ok-say-clause-ok g c =
-    let p = picture_of c.args.frame.now in
-    let e = encoding_of c.in_ok-made.made in
+    let bytes = c.in_ok-bytes.bytes.items in
     let says = c.in_ok-bytes.says in
-    let visit = accepted (c.args.name.now ++ c.args.suffix.now) e.bytes says in (
+    let visit = accepted (c.args.name.now ++ c.args.suffix.now) bytes says in (
       visit,
-      is_accepted c.args.order.now c.args.suffix.now c.args.name.now p e says
-          c.in_ok-made.ensures.encodes c.in_ok-bytes.ensures.says,
+      c.in_ok-bytes.ensures.accepted c.args.suffix.now,
       output_made visit c.as_str.result.now c.as_slice.result.now
           (g.O.Outputs.kept c.args.outputs.now) (g.O.Outputs.kept c.write_output.new.outputs)
-          (output_is c.args.name.now c.args.suffix.now c.as_slice.result.now e.bytes
+          (output_is c.args.name.now c.args.suffix.now c.as_slice.result.now bytes
           c.as_str.result.now (c.as_str.ensures.value ∙ c.in_ok-output.ensures)
-          (c.as_slice.ensures.value ∙ c.in_ok-bytes.ensures.bytes))
+          c.as_slice.ensures.value)
           c.in-Ok.ensures.ok,
       c.in-Ok-say.ensures.ok ∙ ap (λ bytes. option_map (said_with bytes)
           (g.S.Report.said c.args.report.now)) (c.as_bytes.ensures.value ∙ c.in_ok-line.ensures),
@@ -73,20 +58,18 @@ returns-in-Ok-say-clause-ok g c =
 pub returns-clause-err : goal.returns-clause-err
 returns-clause-err g c =
     let p = picture_of c.args.frame.now in
-    let e = encoding_of c.in_ok-made.made in
+    let bytes = c.in_ok-bytes.bytes.items in
     let says = c.in_ok-bytes.says in
-    let visit = accepted (c.args.name.now ++ c.args.suffix.now) e.bytes says in
+    let visit = accepted (c.args.name.now ++ c.args.suffix.now) bytes says in
     line_broken (RightFor c.args.order.now c.args.suffix.now c.args.name.now
     (Ok p)) visit c.as_bytes.result.now
     (g.O.Outputs.kept c.args.outputs.now) (g.O.Outputs.kept c.write_output.new.outputs)
     (g.S.Report.said c.args.report.now) (g.S.Report.said c.say.new.report)
-    (is_accepted c.args.order.now c.args.suffix.now c.args.name.now p e says
-    c.in_ok-made.ensures.encodes c.in_ok-bytes.ensures.says)
+    (c.in_ok-bytes.ensures.accepted c.args.suffix.now)
     (c.as_bytes.ensures.value ∙ c.in_ok-line.ensures)
     (output_made visit c.as_str.result.now c.as_slice.result.now
     (g.O.Outputs.kept c.args.outputs.now) (g.O.Outputs.kept c.write_output.new.outputs)
-    (output_is c.args.name.now c.args.suffix.now c.as_slice.result.now e.bytes c.as_str.result.now
-    (c.as_str.ensures.value ∙ c.in_ok-output.ensures)
-    (c.as_slice.ensures.value ∙ c.in_ok-bytes.ensures.bytes))
+    (output_is c.args.name.now c.args.suffix.now c.as_slice.result.now bytes c.as_str.result.now
+    (c.as_str.ensures.value ∙ c.in_ok-output.ensures) c.as_slice.ensures.value)
     c.in-Ok.ensures.ok)
     c.in-Err-say.ensures.err
