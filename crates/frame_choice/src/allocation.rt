@@ -81,6 +81,7 @@ pub fn choose(
                 certificate,
             })
         }
-        Err(AllocateRefusal::Memory | AllocateRefusal::LimitTooSmall(_, _)) => Err(AllocError),
+        Err(AllocateRefusal::Memory) => Err(AllocError),
+        Err(AllocateRefusal::LimitTooSmall(..)) => unreachable!(),
     }
 }

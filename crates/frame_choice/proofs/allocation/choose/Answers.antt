@@ -1,16 +1,20 @@
-use Rattle.std.proofs.Common.{ℕ, List, length, sym, subst}
+use Rattle.std.proofs.Common.{ℕ, Err, List, ap, length, sym, subst}
 use Rattle.std.proofs.lemmas.List.{length-map}
 use Rattle.band_geometry.specs.Numbering.{all_blocks}
+use Rattle.band_geometry.specs.declared.places.BlockId.{BlockId}
 use Rattle.budget_duals.specs.Certified.{IsCertificate, IsReady}
 use Rattle.budget_duals.specs.Frame.{frame_budgets}
-use Rattle.budget_duals.specs.Held.{IsWithin}
+use Rattle.budget_duals.specs.Held.{Breaks, IsWithin}
 use Rattle.budget_duals.specs.Listed.{steps_of}
 use Rattle.budget_duals.specs.Price.{AreCounts}
+use Rattle.frame_packets.specs.Keeps.{frame_held}
+use Rattle.profile_reader.specs.Packets.{BlockBytes}
 use Rattle.frame_choice.specs.Blocks.{inside_at, most_passes}
 use Rattle.frame_choice.specs.Choice.{block_passes, held_at}
 use Rattle.frame_choice.specs.PriceLaws.{Same, planes_of, same_most}
 use Rattle.frame_choice.specs.declared.coded.CodedFrame.{CodedFrame}
 use Rattle.frame_choice.proofs.Certify.{certified}
+use Rattle.frame_choice.proofs.NoPasses.{none_chosen}
 use Rattle.frame_choice.proofs.Ready.{is_choice, ready}
 use Rattle.frame_choice.proofs.allocation.choose.Goals as goal
 
@@ -58,3 +62,23 @@ returns-in-Ok-clause-chosen c =
     (length-map (all_blocks g) (block_passes g planes))
     (subst (λ (h : CodedFrame). stands h (length (most_passes h.geometry.now (planes_of h)))
     c.undecoded-empty.result) frame walked.1.1)))
+
+-- src/allocation.rt:85:52
+pub unreachable-requires : goal.unreachable-requires
+unreachable-requires c =
+    let f = c.args.frame in
+    let g = f.geometry.now in
+    let limits = c.args.limits.now in
+    let here = c.in-Err-LimitTooSmall in
+    let budget = here.field-0-0 in
+    let price = c.in_ok-price.price in
+    let small = (here.ensures.too_small budget here.field-0-1).0 (ap Err here.field-0-is) in
+    let held = λ (h : CodedFrame) (counts : List ℕ).
+    held_at h.geometry.now h.steps.now (planes_of h) counts in
+    c.requires.within budget
+    (subst (λ (given : BlockId → BlockBytes). Breaks limits (frame_held g f.steps.now given) budget)
+    (none_chosen g f.steps.now (planes_of f) (length (all_blocks g)))
+    (subst (λ (counts : List ℕ). Breaks limits (held f counts) budget)
+    c.in_ok-price.ensures.counts
+    (subst (λ (h : CodedFrame). Breaks limits (held h price.counts.items) budget)
+    c.in_ok-price.ensures.frame small.0.broken)))
