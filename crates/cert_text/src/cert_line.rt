@@ -44,7 +44,7 @@ fn held_field(
 }
 
 /// A budget's place among the multipliers, the outermost at 0.
-fn place_of(budget: Budget) -> usize
+pub fn place_of(budget: Budget) -> usize
     ensures { result ≡ place_of budget }
 {
     match budget {

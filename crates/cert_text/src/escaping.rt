@@ -5,7 +5,7 @@ ghost use Rattle.cert_text.specs.Names.{is_plain, hex_digit, escaped_byte, escap
 use std::alloc::{AllocError, Global};
 
 /// Whether a byte of a name is printed as it is.
-fn is_plain(byte: u8) -> bool
+pub fn is_plain(byte: u8) -> bool
     ensures { result ≡ is_plain byte }
 {
     byte.is_ascii_alphanumeric() || matches!(byte, b'.' | b'_' | b'-')

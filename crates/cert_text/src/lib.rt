@@ -3,23 +3,33 @@
 //! (docs/FORMATS.md).
 //!
 //! A line is a function of what it says (specs/Lines.antt), and `write_cert`, `write_read` and
-//! `write_refused` write exactly that.
+//! `write_refused` write exactly that. `read_cert` reads certificate lines.
 #![tactic(auto)]
 
 mod cert_line;
+mod cert_reading;
+mod cert_refusal;
+mod characters;
 mod escaping;
 mod head;
+mod parts;
 mod read_line;
+mod read_name;
 mod refusals;
 mod refused_line;
+mod step_reading;
 mod words;
 
 pub use cert_line::{CertLine, write_cert};
+pub use cert_reading::read_cert;
+pub use cert_refusal::CertRefusal;
 pub use escaping::escaped;
 pub use read_line::{ReadLine, write_read};
 pub use refusals::refusal_word;
 pub use refused_line::{RefusedLine, write_refused};
 pub use words::{budget_word, profile_word};
 
+#[cfg(test)]
+mod read_tests;
 #[cfg(test)]
 mod tests;
