@@ -1,12 +1,16 @@
 // Words and numbers of a line, read from a place on.
 ghost use Rattle.std.specs.Prelude.{◌≡◌, ◌++◌, ◌<◌, ◌≤◌, ◌^◌, length, decimal, IfOk};
+ghost use Rattle.std.specs.Prelude.{ℕ, ◌≢◌, drop, IfErr};
+ghost use Rattle.cert_text.specs.Stands.{digits_before};
 ghost use Rattle.cert_text.specs.Stands.{Stands};
+ghost use Rattle.cert_text.specs.declared.cert_refusal.CertRefusal.TheVariants.{BadLine};
 
 use crate::cert_refusal::CertRefusal;
 
 /// The refusal of a text, shorter than 2^32 bytes, at a place.
 pub fn bad_line(at: usize) -> CertRefusal
     requires { at < 2 ^ 32 }
+    ensures { result ≡ BadLine at }
 {
     CertRefusal::BadLine(at as u32)
 }
@@ -35,6 +39,10 @@ pub fn number(text: &[u8], at: usize, least: u128, most: u128) -> Result<(u128, 
     ensures stands { IfOk result (λ read. Stands text.now at (decimal read.0) read.1) }
     ensures least { IfOk result (λ read. least ≤ read.0) }
     ensures most { IfOk result (λ read. read.0 ≤ most) }
+    ensures whole { IfOk result (λ read. digits_before (drop at text.now) ≡ decimal read.0) }
+    ensures bad { IfErr result (λ e. e ≡ BadLine at) }
+    ensures none { IfErr result (λ _. (n : ℕ) → least ≤ n → n ≤ most
+        → digits_before (drop at text.now) ≢ decimal n) }
 {
     let mut value: u128 = 0;
     let mut end = at;

@@ -1,4 +1,5 @@
-use Rattle.std.proofs.Common.{◌≡◌, ◌≤◌, ◌<◌, decimal}
+use Rattle.std.proofs.Common.{◌≡◌, ◌≤◌, ◌<◌, ◌++◌, drop, decimal}
+use Rattle.cert_text.specs.Stands.{digits_before}
 use Rattle.cert_text.specs.Stands.{Stands}
 use Rattle.cert_text.proofs.parts.number.Given as goal
 
@@ -9,5 +10,6 @@ invariant-loop-i l = record {
   later : l.at ≤ l.end;
   most : l.at < l.end → l.value ≤ l.most;
   none : l.at ≡ l.end → l.value ≡ 0;
+  digits : l.at < l.end → digits_before (drop l.at l.text) ≡ decimal l.value ++ digits_before (drop l.end l.text);
   stands : l.at < l.end → Stands l.text l.at (decimal l.value) l.end;
 }
