@@ -1,7 +1,7 @@
 -- What was made of a frame is a right encoding.
-use Rattle.std.proofs.Common.{◌≡◌, ℕ, List, sym, subst}
+use Rattle.std.proofs.Common.{◌≡◌, ℕ, List, length, ap, sym, subst, ◌∙◌}
 use Rattle.band_geometry.specs.declared.geometry.Geometry.{Geometry}
-use Rattle.budget_duals.specs.Held.{IsWithin}
+use Rattle.budget_duals.specs.Held.{IsWithin, held_in}
 use Rattle.budget_duals.specs.declared.certificate.Certificate.{Certificate}
 use Rattle.budget_duals.specs.declared.held.Held.{Held}
 use Rattle.cine_nums.specs.declared.budget.Budget.TheVariants.{Frame}
@@ -20,6 +20,7 @@ use Rattle.frame_encoder.specs.Writing.{IsFrameOf, chosen_by, chosen_held, steps
 use Rattle.frame_encoder.specs.declared.order.EncodeOrder.{EncodeOrder}
 use Rattle.frame_encoder.specs.declared.writing.ChosenPasses.{ChosenPasses}
 use Rattle.frame_encoder.proofs.Chosen.{can_choose}
+use Rattle.frame_encoder.proofs.Whole.{counted, whole}
 
 -- the geometry by its own profile
 pub own_profile : (profile : Profile) (p : Picture) (g : Geometry) → IsGeometryOf profile p g →
@@ -59,6 +60,12 @@ encodes_so reading decoding order p g s bytes held empty c of allowed same is_fr
       of_picture = subst (λ (k : Geometry). IsGeometryOf order.profile p k) back of;
       bytes = bytes_are planes is;
       held = held_is planes is;
+      whole = ap (λ (k : Held). k.frame) (held_is planes is)
+          ∙ sym (whole h (steps_of s) (chosen_by planes s))
+          ∙ sym (ap (λ (bs : List ℕ). length bs) (bytes_are planes is));
+      counted = λ budget.
+          ap (λ (k : Held). held_in k budget) (held_is planes is)
+          ∙ counted h (steps_of s) (chosen_by planes s) budget;
       limits = subst (λ (k : Held). IsWithin order.limits k) (sym (held_is planes is)) best.within;
       reads = subst (λ (bs : List ℕ). Reads bs (decoded_by h p s.choice.items))
           (sym (bytes_are planes is)) (reading h (steps_of s) planes s.choice.items can);

@@ -1,15 +1,20 @@
 -- What encoding a frame gives, and which of it is right.
-use Rattle.std.specs.Prelude.{ℕ, ◌≡◌, ◌+◌, ◌*◌, ◌<◌, ◌≤◌, List, [], ◌∷◌, get_or}
+use Rattle.std.specs.Prelude.{ℕ, ◌≡◌, ◌+◌, ◌*◌, ◌<◌, ◌≤◌, List, [], ◌∷◌, ◌++◌, get_or, length}
+use Rattle.std.specs.List.{flat_map}
 use Rattle.cine_nums.specs.Profile.{levels_of}
+use Rattle.cine_nums.specs.declared.budget.Budget.{Budget}
+use Rattle.cine_nums.specs.declared.budget.Budget.TheVariants.{Frame, Inner, C0, C1, C2}
 use Rattle.cine_nums.specs.declared.profile.Profile.{Profile}
+use Rattle.cine_nums.specs.declared.profile.Profile.TheVariants.{TwoK, FourK}
 use Rattle.allocation_bound.specs.Sums.{total}
 use Rattle.band_geometry.specs.declared.geometry.Geometry.{Geometry}
 use Rattle.band_geometry.specs.declared.places.BlockId.{BlockId}
-use Rattle.budget_duals.specs.Held.{IsWithin}
+use Rattle.budget_duals.specs.Held.{IsWithin, held_in}
 use Rattle.budget_duals.specs.Tree.{number_at}
 use Rattle.budget_duals.specs.declared.certificate.Certificate.{Certificate}
 use Rattle.budget_duals.specs.declared.certificate.RefusedStep.{RefusedStep}
 use Rattle.budget_duals.specs.declared.held.Held.{Held}
+use Rattle.cinema_markers.specs.MainHeader.{main_header_of}
 use Rattle.codeblock_views.specs.KnownCells.{zero_known}
 use Rattle.dz_quantiser.specs.Coefficient.{Coefficient, zero_coefficient}
 use Rattle.dz_quantiser.specs.declared.steps.StepSizes.{StepSizes}
@@ -23,7 +28,8 @@ use Rattle.profile_reader.specs.Chosen.{Planes, chosen, choice_distortion}
 use Rattle.profile_reader.specs.Packets.{BlockBytes}
 use Rattle.profile_reader.specs.Reads.{Decoding, Reads}
 use Rattle.profile_reader.specs.Shown.{chosen_decoding, unknown_at, IsCut}
-use Rattle.profile_reader.specs.Spell.{spell}
+use Rattle.profile_reader.specs.Spell.{header_for, part_lengths, spell, written_part}
+use Rattle.tile_parts.specs.Head.{eoc}
 use Rattle.frame_encoder.specs.declared.order.EncodeOrder.{EncodeOrder}
 use Rattle.frame_encoder.specs.declared.frame.Encoded.{Encoded}
 
@@ -73,6 +79,24 @@ planes_of g p component =
 abbrev pub written_by : Geometry → Picture → List ℕ → BlockId → BlockBytes
 written_by g p choice = chosen g (steps_in g) (planes_of g p) choice
 
+-- The 2K portion of a codestream with this main header and these tile-parts (DCI Digital Cinema
+-- System Specification, section 4): of 4K the main header, the first three tile-parts and EOC. A 2K
+-- codestream has none.
+abbrev pub inner_portion : Profile → List ℕ → (ℕ → List ℕ) → List ℕ
+inner_portion TwoK main part = []
+inner_portion FourK main part = main ++ (flat_map part (0 ∷ 1 ∷ 2 ∷ []) ++ eoc)
+
+-- The bytes that a budget counts of the codestream of what is written of each code-block: all of
+-- it, its 2K portion, or a component's tile-part, with 4K the one in the 2K portion.
+abbrev pub counted_bytes : Geometry → StepSizes → (BlockId → BlockBytes) → Budget → List ℕ
+counted_bytes g steps given Frame = spell g steps given
+counted_bytes g steps given Inner =
+    inner_portion g.profile (main_header_of (header_for g steps (part_lengths g steps given)))
+    (written_part g steps given)
+counted_bytes g steps given C0 = written_part g steps given 0
+counted_bytes g steps given C1 = written_part g steps given 1
+counted_bytes g steps given C2 = written_part g steps given 2
+
 -- what the codestream of a choice is decoded to
 abbrev pub decoded_by : Geometry → Picture → List ℕ → Decoding
 decoded_by g p choice = chosen_decoding g (steps_in g) (planes_of g p) choice
@@ -88,9 +112,14 @@ pub record Encodes (order : EncodeOrder) (p : Picture) (e : Encoding) : Type 0 w
   pub of_picture : IsGeometryOf order.profile p geometry
   -- The bytes are the codestream of the chosen coding passes.
   pub bytes : e.bytes ≡ spell geometry (steps_in geometry) (written_by geometry p e.choice)
-  -- `held` is what it holds in each byte budget, headers included, and
+  -- `held` is what it holds in each byte budget, headers included;
   pub held : e.held ≡ frame_held geometry (steps_in geometry) (written_by geometry p e.choice)
-  -- each budget is within the order's limit.
+  -- headers included is said of the written bytes themselves: the frame's budget holds all of them,
+  pub whole : e.held.frame ≡ length e.bytes
+  -- and each budget those that it counts.
+  pub counted : (budget : Budget) → held_in e.held budget
+      ≡ length (counted_bytes geometry (steps_in geometry) (written_by geometry p e.choice) budget)
+  -- Each budget is within the order's limit.
   pub limits : IsWithin order.limits e.held
   -- The bytes are read as the decoding of the choice,
   pub reads : Reads e.bytes (decoded_by geometry p e.choice)
@@ -118,7 +147,8 @@ pub record Encodes (order : EncodeOrder) (p : Picture) (e : Encoding) : Type 0 w
   -- and 0 where no budget has a multiplier.
   pub no_multiplier : ((j : ℕ) → j < 5 → number_at e.certificate.multipliers j ≡ 0) →
       e.certificate.gap ≡ 0
-  -- Multipliers, gap and refused steps are those of the walk over the hulls of the blocks, and each
-  -- refused step leads from the chosen passes of a block to passes that would break a limit.
+  -- Multipliers, gap and refused steps are those of a settled walk over the hulls of the blocks,
+  -- and each refused step leads from the chosen passes of a block to passes that would break a
+  -- limit.
   pub chosen : IsChosen geometry (steps_in geometry) (planes_of geometry p) order.limits e.choice
       e.certificate
