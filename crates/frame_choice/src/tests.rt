@@ -1,12 +1,13 @@
-// Frames of one sample, whose numbers are known from outside.
-ghost use Rattle.std.specs.Prelude.{◌*◌, ◌≡◌, ◌<◌, IfOk};
+// Frames of one sample, whose numbers are known from outside, and one of the largest size.
+ghost use Rattle.std.specs.Prelude.{◌*◌, ◌^◌, ◌≡◌, ◌<◌, IfOk};
+ghost use Rattle.cine_nums.specs.declared.profile.Profile.TheVariants.{TwoK};
 ghost use Rattle.dz_quantiser.specs.Bands.{AreUsable};
 ghost use Rattle.coded_blocks.specs.Frame.{CanBeCoded};
 
-use crate::{CodedFrame, FramePrice, steps};
+use crate::{Choice, CodedFrame, FramePrice, choose, steps};
 use band_geometry::Geometry;
-use budget_duals::Price;
-use cine_nums::Profile;
+use budget_duals::{Limits, Price, RefusedStep};
+use cine_nums::{Budget, Profile};
 use codeblock_views::CoefPlane;
 use coded_blocks::CodedBlocks;
 use dz_quantiser::{Coef, StepSizes};
@@ -75,5 +76,156 @@ fn the_magnitude_64(rt: HostRuntime) -> Result<(), Fail> {
     assert_eq!(rt; (price.count(), price.held().frame), (3, 191));
     assert_eq!(rt; after(&price, &step), 195);
     assert_eq!(rt; price.held().component, [20, 20, 20]);
+    Ok(())
+}
+
+/// Chooses the passes of a 2K frame under limits of the whole codestream and of component 1. None
+/// where a codestream without any pass holds more.
+fn choose_under(
+    alloc: Global,
+    frame: CodedFrame,
+    whole: u32,
+    second: u32,
+) -> Result<Option<Choice>, AllocError>
+    requires profile { frame.geometry.now.profile ≡ TwoK }
+    requires whole { whole < 2 ^ 22 }
+    requires second { second < 2 ^ 22 }
+{
+    let limits = Limits {
+        frame: whole,
+        inner: None,
+        component: [1_041_666, second, 1_041_666],
+    };
+    let packets = FramePackets::empty(alloc, frame.geometry, frame.steps)?;
+    let held = packets.held();
+    match limits.broken(&held) {
+        Some(_) => Ok(None),
+        None => Ok(Some(choose(alloc, frame, &limits, packets)?)),
+    }
+}
+
+/// Whether a choice has such numbers of passes, packets for so many bytes of the codestream, and
+/// such a certificate.
+fn says(
+    found: Option<Choice>,
+    counts: &[u8],
+    bytes: u32,
+    multipliers: [u128; 5],
+    gap: u128,
+    distortions: (u128, u128),
+    refused: &[RefusedStep],
+) -> bool {
+    match found {
+        Some(choice) => {
+            let certificate = &choice.certificate;
+            choice.counts.as_slice() == counts
+                && choice.packets.held().frame == bytes
+                && certificate.multipliers == multipliers
+                && certificate.gap == gap
+                && (choice.empty, certificate.distortion) == distortions
+                && certificate.refused.as_slice() == refused
+        }
+        None => false,
+    }
+}
+
+// Two blocks, of components 0 and 1, have the magnitude 64: the step of each has one byte of code,
+// and the header of its packet grows by three. The codestream without any pass has 191 bytes, and
+// the tile-part of a component 20.
+#[test]
+fn chooses_among_two_blocks(rt: HostRuntime) -> Result<(), Fail> {
+    let alloc = rt.alloc();
+    let geometry = Geometry::new(Profile::TwoK, 5, 1, 1);
+    let sizes = StepSizes::built_in(Profile::TwoK);
+    let plane = plane_of(alloc, &geometry, &sizes, 64)?;
+    let zeros = plane_of(alloc, &geometry, &sizes, 0)?;
+    let blocks = CodedBlocks::code(alloc, &geometry, &sizes, &plane, &plane, &zeros)?;
+    let frame = CodedFrame {
+        geometry: &geometry,
+        steps: &sizes,
+        c0: &plane,
+        c1: &plane,
+        c2: &zeros,
+        blocks: &blocks,
+    };
+    let refused = |budget: Budget, block: u32| RefusedStep {
+        budget,
+        step: Step {
+            block,
+            from: 0,
+            to: 18,
+            len: 1,
+            gain: 16_641,
+        },
+        grow: 3,
+        price: 66_564,
+    };
+    // Both fit.
+    let found = choose_under(alloc, frame, 199, 24)?;
+    assert!(rt; says(found, &[18, 18, 0], 199, [0; 5], 0, (33_282, 0), &[]));
+    // The frame has 3 bytes unused, one too few for the second, and then for either.
+    let slope = 71_472_550_772_736;
+    let found = choose_under(alloc, frame, 198, 24)?;
+    let steps = [refused(Budget::Frame, 1)];
+    assert!(rt;
+        says(
+            found,
+            &[18, 0, 0],
+            195,
+            [slope, 0, 0, 0, 0],
+            49_923,
+            (33_282, 16_641),
+            &steps
+        )
+    );
+    let found = choose_under(alloc, frame, 194, 24)?;
+    let steps = [refused(Budget::Frame, 0)];
+    assert!(rt;
+        says(
+            found,
+            &[0, 0, 0],
+            191,
+            [slope, 0, 0, 0, 0],
+            49_923,
+            (33_282, 33_282),
+            &steps
+        )
+    );
+    // Component 1 has no byte unused.
+    let found = choose_under(alloc, frame, 199, 20)?;
+    let steps = [refused(Budget::C1, 1)];
+    assert!(rt;
+        says(
+            found,
+            &[18, 0, 0],
+            195,
+            [0, 0, 0, slope, 0],
+            0,
+            (33_282, 16_641),
+            &steps
+        )
+    );
+    Ok(())
+}
+
+// Each of the 59 packets of a component has a header of one byte.
+#[test]
+fn the_largest_frame_of_2k(rt: HostRuntime) -> Result<(), Fail> {
+    let alloc = rt.alloc();
+    let geometry = Geometry::new(Profile::TwoK, 5, 2048, 1080);
+    let sizes = StepSizes::built_in(Profile::TwoK);
+    let zeros = plane_of(alloc, &geometry, &sizes, 0)?;
+    let blocks = CodedBlocks::code(alloc, &geometry, &sizes, &zeros, &zeros, &zeros)?;
+    let frame = CodedFrame {
+        geometry: &geometry,
+        steps: &sizes,
+        c0: &zeros,
+        c1: &zeros,
+        c2: &zeros,
+        blocks: &blocks,
+    };
+    let found = choose_under(alloc, frame, 1_302_083, 1_041_666)?;
+    let counts = vec![in alloc; 0u8; 6708]?;
+    assert!(rt; says(found, counts.as_slice(), 350, [0; 5], 0, (0, 0), &[]));
     Ok(())
 }
