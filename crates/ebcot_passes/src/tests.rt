@@ -7,7 +7,7 @@ use band_geometry::Rect;
 use cine_nums::Orient;
 use codeblock_views::{BlockView, CoefPlane};
 use dz_quantiser::Coef;
-use mq_coder::{Mark, ending};
+use mq_coder::{Encoder, Mark, ending};
 use std::test::Fail;
 
 /// A block that lies at the left of a grid, of which the first places of its first column are
@@ -57,12 +57,56 @@ fn codes_single_places(rt: HostRuntime) {
         (1, 7, [64, 0, 0, 0], 6, [0x04].as_slice()),
         (1, 7, [64, 0, 0, 0], 19, [0x04].as_slice()),
         (1, 17, [131_008, 0, 0, 0], 48, [0x00, 0xEA, 0xC8].as_slice()),
+        (1, 18, [131_072 + minus, 0, 0, 0], 51, [0x07].as_slice()),
     ];
     for (height, planes, column, passes, code) in rows {
         let mut bytes = [0; 16384];
         let mut block = BlockCoder::begin(Orient::LL, 1, height, planes, &grid_of(&column), 0);
         let mark = code_passes(&mut block, &mut bytes, passes);
         assert_eq!(rt; code_at(&mark, &bytes).as_slice(), code);
+    }
+}
+
+/// Puts a list of symbols, each of which has a context below 19.
+fn put_all(encoder: &mut Encoder, symbols: &[(u8, bool)]) {
+    for (cx, bit) in symbols {
+        if *cx < 19 && encoder.has_room() {
+            encoder.put(*cx, *bit);
+        }
+    }
+}
+
+/// A block of 32 by 32 places with 1 at its upper left corner alone has 265 symbols: a run that
+/// ends in its first row, the sign, the places about the corner, then 254 columns in run mode. The
+/// contexts are those of the places below the corner, beside it, and diagonal to it.
+#[test]
+fn codes_a_corner(rt: HostRuntime) {
+    let rows = [
+        (Orient::LL, 3, 5, 1, [0x14, 0xE8, 0xBF].as_slice()),
+        (Orient::HL, 5, 3, 1, [0x14, 0xE8, 0xBF].as_slice()),
+        (Orient::LH, 3, 5, 1, [0x14, 0xE8, 0xBF].as_slice()),
+        (Orient::HH, 1, 1, 3, [0x15, 0x81, 0xFF, 0x7F].as_slice()),
+    ];
+    for (orient, below, beside, diagonal, code) in rows {
+        let mut bytes = [0; 16384];
+        let mut block = BlockCoder::begin(orient, 32, 32, 1, &grid_of(&[1, 0, 0, 0]), 9);
+        let mark = code_passes(&mut block, &mut bytes, 1);
+        assert_eq!(rt; code_at(&mark, &bytes).as_slice(), code);
+        assert_eq!(rt; (block.distortion(), block.has_more()), (0, false));
+        let mut others = [0; 64];
+        let mut encoder = Encoder::new(&mut others);
+        put_all(
+            &mut encoder,
+            &[(17, true), (18, false), (18, false), (9, false)],
+        );
+        put_all(
+            &mut encoder,
+            &[(below, false), (0, false), (0, false), (beside, false)],
+        );
+        put_all(&mut encoder, &[(diagonal, false), (0, false), (0, false)]);
+        put_all(&mut encoder, &[(17, false); 254]);
+        let mark = encoder.mark();
+        assert_eq!(rt; code_at(&mark, encoder.finish()).as_slice(), code);
     }
 }
 
