@@ -1,3 +1,12 @@
 pub mod Stands
-pub mod Said
 pub mod Digits
+pub mod Agreed
+pub mod Forms
+pub mod LineReading
+pub mod StepReading
+pub mod Utf8
+pub mod Utf8Text
+pub mod NameReading
+pub mod Whole
+pub mod LineFound
+pub mod LineSaid

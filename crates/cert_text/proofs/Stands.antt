@@ -1,54 +1,59 @@
 -- Parts of a text, one after the other.
-use Rattle.std.proofs.Common.{ℕ, ◌≡◌, ◌+◌, ◌*◌, ◌/◌, ◌%◌, ◌<◌, ◌≤◌, ◌^◌, ◌++◌, List, [], ◌∷◌, length, drop, take, get_or}
-use Rattle.std.proofs.Common.{refl, ap, sym, ◌∙◌, arith, add-one, append_assoc, drop-cons, decimal}
+use Rattle.std.proofs.Common.{ℕ, ◌≡◌, ◌+◌, ◌*◌, ◌/◌, ◌%◌, ◌<◌, ◌≤◌, ◌^◌, ◌++◌, List, [], ◌∷◌}
+use Rattle.std.proofs.Common.{length, drop, take, get_or}
+use Rattle.std.proofs.Common.{ap, sym, ◌∙◌, arith, add-one, append_assoc, drop-cons, decimal}
 use Rattle.std.proofs.lemmas.Fmt.{decimal_step_wide, decimal_digit}
 use Rattle.std.proofs.lemmas.List.{take_more}
 use Rattle.std.proofs.lemmas.Bool.{cases_lt}
-use Rattle.std.proofs.Common.{inl, inr, subst}
+use Rattle.std.proofs.Common.{inl, inr}
 use Rattle.std.specs.Prelude.{codes}
-use Rattle.std.specs.List.{flat_map}
-use Rattle.std.proofs.lemmas.Grind.{flat_map-append}
-use Rattle.std.proofs.Math.Seq.{drop-length}
-use Rattle.std.proofs.lemmas.List.{append-nil}
 use Rattle.cert_text.specs.Stands.{Stands}
 
--- nothing stands anywhere
-pub stands_none : (x : List ℕ) (i : ℕ) → i ≤ length x → Stands x i [] i
-stands_none x i h = record { within = h; same = refl }
-
 -- one part after another
-pub stands_append : {x s t : List ℕ} {i j k : ℕ} → Stands x i s j → Stands x j t k → Stands x i (s ++ t) k
+pub stands_append : {x s t : List ℕ} {i j k : ℕ} → Stands x i s j → Stands x j t k
+    → Stands x i (s ++ t) k
 stands_append {x} {s} {t} {i} {j} {k} a b =
-    record { within = b.within; same = a.same ∙ (ap (λ (y : List ℕ). s ++ y) b.same ∙ sym (append_assoc s t (drop k x))) }
+    record {
+      within = b.within;
+      same = a.same ∙ (ap (λ (y : List ℕ). s ++ y) b.same
+          ∙ sym (append_assoc s t (drop k x)));
+    }
 
 -- a byte
-pub stands_byte : (x : List ℕ) (i b : ℕ) → i < length x → get_or x i 0 ≡ b → Stands x i (b ∷ []) (i + 1)
+pub stands_byte : (x : List ℕ) (i b : ℕ) → i < length x → get_or x i 0 ≡ b → Stands x i (b ∷ [])
+    (i + 1)
 stands_byte x i b h e =
     record { within = omega arith; same = rw (← e) (rw add-one (drop-cons x i 0 h)) }
 
 -- a byte after a part
-pub stands_push : {x s : List ℕ} {i j : ℕ} (b : ℕ) → Stands x i s j → j < length x → get_or x j 0 ≡ b → Stands x i (s ++ (b ∷ [])) (j + 1)
+pub stands_push : {x s : List ℕ} {i j : ℕ} (b : ℕ) → Stands x i s j → j < length x → get_or x j 0
+    ≡ b → Stands x i (s ++ (b ∷ [])) (j + 1)
 stands_push {x} {s} {i} {j} b a h e = stands_append a (stands_byte x j b h e)
 
 -- a digit more of a number that isn't 0
-pub decimal_more : (n d : ℕ) → 0 < n → d < 10 → n * 10 + d < 10 ^ 64 → decimal (n * 10 + d) ≡ decimal n ++ ((48 + d) ∷ [])
+pub decimal_more : (n d : ℕ) → 0 < n → d < 10 → n * 10 + d < 10 ^ 64 → decimal (n * 10 + d)
+    ≡ decimal n ++ ((48 + d) ∷ [])
 decimal_more n d pos small wide =
     let q : (n * 10 + d) / 10 ≡ n = omega arith in
     let r : (n * 10 + d) % 10 ≡ d = omega arith in
-    let s : decimal (n * 10 + d) ≡ decimal ((n * 10 + d) / 10) ++ ((48 + (n * 10 + d) % 10) ∷ []) = decimal_step_wide (n * 10 + d) (omega arith) wide in
+    let s : decimal (n * 10 + d) ≡ decimal ((n * 10 + d) / 10) ++ ((48 + (n * 10 + d) % 10) ∷ [])
+    = decimal_step_wide (n * 10 + d) (omega arith) wide in
     rw (q, r) at s
 
 -- a byte more of a word
-pub word_more : (x w : List ℕ) (at k end : ℕ) → Stands x at (take k w) end → k < length w → end < length x → get_or x end 0 ≡ get_or w k 0 → Stands x at (take (k + 1) w) (end + 1)
+pub word_more : (x w : List ℕ) (at k end : ℕ) → Stands x at (take k w) end → k < length w
+    → end < length x → get_or x end 0 ≡ get_or w k 0 → Stands x at (take (k + 1) w) (end + 1)
 word_more x w at k end a h l e = rw (take_more w k 0 h) (stands_push (get_or w k 0) a l e)
 
 -- a digit more of a number
-pub number_more : (x : List ℕ) (at i value digit : ℕ) → at ≤ i → i < length x → get_or x i 0 ≡ 48 + digit → digit < 10
+pub number_more : (x : List ℕ) (at i value digit : ℕ) → at ≤ i → i < length x → get_or x i 0
+    ≡ 48 + digit → digit < 10
     → (at < i → 0 < value) → (at ≡ i → value ≡ 0) → value * 10 + digit < 10 ^ 64
     → (at < i → Stands x at (decimal value) i) → Stands x at (decimal (value * 10 + digit)) (i + 1)
 number_more x at i value digit a l e small pos none wide s =
     elim (cases_lt at i) [
-      | inl h ↦ rw (decimal_more value digit (pos h) small wide) (stands_push (48 + digit) (s h) l e)
+      | inl h ↦ rw (decimal_more value digit (pos h) small wide) (stands_push (48 + digit) (s h) l
+          e)
       | inr h ↦
           let same : at ≡ i = omega arith in
           let zero : value ≡ 0 = none same in
@@ -56,42 +61,12 @@ number_more x at i value digit a l e small pos none wide s =
           rw (sum, decimal_digit digit small, same) (stands_byte x i (48 + digit) l e)
     ]
 
--- one item more of a list of parts
-pub stands_each : {X : Type 0} (f : X → List ℕ) (xs : List X) (y : X) {x : List ℕ} {i j k : ℕ}
-    → Stands x i (flat_map f xs) j → Stands x j (f y) k → Stands x i (flat_map f (xs ++ (y ∷ []))) k
-stands_each f xs y {x} {i} {j} {k} a b =
-    rw (flat_map-append f xs (y ∷ [])) (stands_append a (stands_append b (stands_none x k b.within)))
-
--- a part that is the whole text
-pub stands_whole : (x t : List ℕ) → Stands x 0 t (length x) → x ≡ t
-stands_whole x t h =
-    let e : x ≡ t ++ drop (length x) x = h.same in
-    let d : drop (length x) x ≡ [] = drop-length x in
-    e ∙ (ap (λ (y : List ℕ). t ++ y) d ∙ append-nil t)
-
 -- a line's text, part by part
 pub line_spelled : (name profile width height budgets sums steps : List ℕ)
-    → codes "ok " ++ (name ++ (codes " " ++ (profile ++ ((codes " " ++ (width ++ (codes "x" ++ height)))
+    → codes "ok " ++ (name
+    ++ (codes " " ++ (profile ++ ((codes " " ++ (width ++ (codes "x" ++ height)))
     ++ (budgets ++ (sums ++ (steps ++ codes "\n")))))))
-    ≡ (codes "ok" ++ (codes " " ++ (name ++ (codes " " ++ (profile ++ (codes " " ++ (width ++ (codes "x" ++ height))))))))
+    ≡ (codes "ok" ++ (codes " "
+    ++ (name ++ (codes " " ++ (profile ++ (codes " " ++ (width ++ (codes "x" ++ height))))))))
     ++ (budgets ++ (sums ++ (steps ++ codes "\n")))
 line_spelled name profile width height budgets sums steps = simp append_assoc
-
--- the parts of a line, one after the other up to the end of the text
-pub line_found : (name profile width height budgets sums steps : List ℕ) {x : List ℕ} {a b c d e f g h k : ℕ}
-    → Stands x 0 (codes "ok ") a → Stands x a name b → Stands x b (codes " ") c → Stands x c profile d
-    → Stands x d (codes " " ++ (width ++ (codes "x" ++ height))) e → Stands x e budgets f
-    → Stands x f sums g → Stands x g steps h → Stands x h (codes "\n") k → length x ≤ k
-    → x ≡ (codes "ok" ++ (codes " " ++ (name ++ (codes " " ++ (profile ++ (codes " " ++ (width ++ (codes "x" ++ height))))))))
-    ++ (budgets ++ (sums ++ (steps ++ codes "\n")))
-line_found name profile width height budgets sums steps {x} {k = k} s1 s2 s3 s4 s5 s6 s7 s8 s9 past =
-    let within : k ≤ length x = s9.within in
-    let last : k ≡ length x = omega arith in
-    let all : Stands x 0 (codes "ok " ++ (name ++ (codes " " ++ (profile ++ ((codes " " ++ (width ++ (codes "x" ++ height)))
-    ++ (budgets ++ (sums ++ (steps ++ codes "\n")))))))) k
-    = stands_append s1 (stands_append s2 (stands_append s3 (stands_append s4 (stands_append s5
-    (stands_append s6 (stands_append s7 (stands_append s8 s9))))))) in
-    stands_whole x _ (subst (λ (j : ℕ). Stands x 0 (codes "ok " ++ (name ++ (codes " " ++ (profile
-    ++ ((codes " " ++ (width ++ (codes "x" ++ height)))
-    ++ (budgets ++ (sums ++ (steps ++ codes "\n")))))))) j) last all)
-    ∙ line_spelled name profile width height budgets sums steps

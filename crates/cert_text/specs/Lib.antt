@@ -4,3 +4,6 @@ pub mod Words
 pub mod Lines
 pub mod Stands
 pub mod Reading
+pub mod Forms
+pub mod LineForms
+pub mod Characters

@@ -1,13 +1,12 @@
 // A certificate line, read.
-ghost use Rattle.std.specs.Prelude.{ℕ, is_some};
-ghost use Rattle.std.specs.Prelude.{◌≡◌, ◌++◌, ◌<◌, ◌≤◌, ◌^◌, length, codes, decimal, IfOk, Some, None};
-ghost use Rattle.cine_nums.specs.Limits.{limit_of, has_inner};
-ghost use Rattle.cert_text.specs.Reading.{AreBudgets, IsSaid};
-ghost use Rattle.cine_nums.specs.Profile.{max_width_of, max_height_of};
-ghost use Rattle.cert_text.specs.Words.{profile_word};
-ghost use Rattle.cert_text.specs.Lines.{cert_line, held_field, limited_field, budget_fields, sums};
-ghost use Rattle.cine_nums.specs.declared.budget.Budget.TheVariants.{Inner};
-ghost use Rattle.cert_text.specs.Stands.{Stands};
+ghost use Rattle.std.specs.Prelude.{ℕ, ◌≡◌, ◌<◌, ◌≤◌, ◌^◌, [], ◌∷◌, length, IfOk, IfErr};
+ghost use Rattle.cert_text.specs.Reading.{IsSaid};
+ghost use Rattle.cert_text.specs.Lines.{cert_line};
+ghost use Rattle.cert_text.specs.Forms.{Reads, Refuses};
+ghost use Rattle.cert_text.specs.LineForms as forms;
+ghost use Rattle.cert_text.specs.LineForms.{inner_limit, values_of, fields_read, IsBadAt};
+ghost use Rattle.cert_text.specs.declared.cert_line.CertLine.{CertLine};
+ghost use Rattle.cert_text.specs.declared.cert_refusal.CertRefusal.TheVariants.{BadLine};
 
 use crate::cert_line::CertLine;
 use crate::cert_refusal::CertRefusal;
@@ -27,20 +26,14 @@ struct BudgetField {
     multiplier: u128,
 }
 
-/// The inner budget of a line; no limit, and 0 for the rest, where the profile has no such budget.
-#[derive(Clone, Copy, Debug)]
-struct InnerField {
-    held: u32,
-    limit: Option<u32>,
-    multiplier: u128,
-}
-
 /// The budgets of a line.
 #[derive(Clone, Copy, Debug)]
 struct BudgetFields {
-    held: Held,
-    limits: Limits,
-    multipliers: [u128; 5],
+    frame: BudgetField,
+    inner: BudgetField,
+    c0: BudgetField,
+    c1: BudgetField,
+    c2: BudgetField,
 }
 
 /// The sums of a line.
@@ -56,25 +49,24 @@ struct Totals {
 fn profile(text: &[u8], at: usize) -> Result<(Profile, usize), CertRefusal>
     requires short { length text.now < 2 ^ 32 }
     requires within { at ≤ length text.now }
-    ensures { IfOk result (λ read. Stands text.now at (profile_word read.0) read.1) }
+    ensures reads { IfOk result (λ read. Reads forms.profile text.now at read.0 read.1) }
+    ensures refused { IfErr result (λ e. Refuses forms.profile text.now at e) }
 {
-    let profile = if at < text.len() && text[at] == b'4' {
-        Profile::FourK
-    } else {
-        Profile::TwoK
-    };
-    let end = word(text, at, profile_word(profile).as_bytes())?;
-    Ok((profile, end))
+    if at < text.len() && text[at] == b'4' {
+        let end = word(text, at, b"4k")?;
+        return Ok((Profile::FourK, end));
+    }
+    let end = word(text, at, b"2k")?;
+    Ok((Profile::TwoK, end))
 }
 
 /// Reads a frame's size in samples, and returns the place after it too.
 fn size(text: &[u8], at: usize, profile: Profile) -> Result<(u32, u32, usize), CertRefusal>
     requires short { length text.now < 2 ^ 32 }
     requires within { at ≤ length text.now }
-    ensures stands { IfOk result (λ read. Stands text.now at
-        (codes " " ++ (decimal read.0 ++ (codes "x" ++ decimal read.1))) read.2) }
-    ensures wide { IfOk result (λ read. (1 ≤ read.0) × (read.0 ≤ max_width_of profile)) }
-    ensures high { IfOk result (λ read. (1 ≤ read.1) × (read.1 ≤ max_height_of profile)) }
+    ensures reads { IfOk result (λ read.
+        Reads (forms.size profile) text.now at (read.0, read.1) read.2) }
+    ensures refused { IfErr result (λ e. Refuses (forms.size profile) text.now at e) }
 {
     let (width, at) = labelled(text, at, b" ", 1, u128::from(profile.max_width()))?;
     let (height, end) = labelled(text, at, b"x", 1, u128::from(profile.max_height()))?;
@@ -90,10 +82,9 @@ fn budget(
 ) -> Result<(BudgetField, usize), CertRefusal>
     requires short { length text.now < 2 ^ 32 }
     requires within { at ≤ length text.now }
-    ensures stands { IfOk result (λ read. Stands text.now at
-        (held_field budget read.0.held read.0.limit read.0.multiplier) read.1) }
-    ensures limited { IfOk result (λ read. read.0.limit ≤ limit_of profile budget) }
-    ensures priced { IfOk result (λ read. read.0.multiplier < 2 ^ 96) }
+    ensures reads { IfOk result (λ read. Reads (forms.budget profile budget) text.now at
+        (read.0.held, (read.0.limit, read.0.multiplier)) read.1) }
+    ensures refused { IfErr result (λ e. Refuses (forms.budget profile budget) text.now at e) }
 {
     let at = word(text, at, b" ")?;
     let at = word(text, at, budget_word(budget).as_bytes())?;
@@ -109,40 +100,30 @@ fn budget(
 }
 
 /// Reads the inner budget, and returns the place after it too. A line of 2K, which has no such
-/// budget, says nothing of it.
+/// budget, says nothing of it, and each of its numbers is read as 0.
 fn inner_budget(
     text: &[u8],
     at: usize,
     profile: Profile,
-) -> Result<(InnerField, usize), CertRefusal>
+) -> Result<(BudgetField, usize), CertRefusal>
     requires short { length text.now < 2 ^ 32 }
     requires within { at ≤ length text.now }
-    ensures stands { IfOk result (λ read. Stands text.now at
-        (limited_field Inner read.0.held read.0.limit read.0.multiplier) read.1) }
-    ensures has_limit { IfOk result (λ read. is_some read.0.limit ≡ has_inner profile) }
-    ensures limited { IfOk result (λ read. (n : ℕ) → read.0.limit ≡ Some n
-        → n ≤ limit_of profile Inner) }
-    ensures priced { IfOk result (λ read. read.0.multiplier < 2 ^ 96) }
-    ensures nothing_held { IfOk result (λ read. read.0.limit ≡ None → read.0.held ≡ 0) }
-    ensures no_multiplier { IfOk result (λ read. read.0.limit ≡ None → read.0.multiplier ≡ 0) }
+    ensures reads { IfOk result (λ read. Reads (forms.inner_budget profile) text.now at
+        (read.0.held, (read.0.limit, read.0.multiplier)) read.1) }
+    ensures refused { IfErr result (λ e. Refuses (forms.inner_budget profile) text.now at e) }
 {
     match profile {
-        Profile::TwoK => Ok((
-            InnerField {
+        Profile::TwoK => {
+            let none = BudgetField {
                 held: 0,
-                limit: None,
+                limit: 0,
                 multiplier: 0,
-            },
-            at,
-        )),
+            };
+            Ok((none, at))
+        }
         Profile::FourK => {
             let (field, end) = budget(text, at, profile, Budget::Inner)?;
-            let inner = InnerField {
-                held: field.held,
-                limit: Some(field.limit),
-                multiplier: field.multiplier,
-            };
-            Ok((inner, end))
+            Ok((field, end))
         }
     }
 }
@@ -151,10 +132,9 @@ fn inner_budget(
 fn budgets(text: &[u8], at: usize, profile: Profile) -> Result<(BudgetFields, usize), CertRefusal>
     requires short { length text.now < 2 ^ 32 }
     requires within { at ≤ length text.now }
-    ensures stands { IfOk result (λ read. Stands text.now at
-        (budget_fields read.0.held read.0.limits read.0.multipliers) read.1) }
-    ensures budgets { IfOk result (λ read.
-        AreBudgets profile read.0.held read.0.limits read.0.multipliers) }
+    ensures reads { IfOk result (λ read.
+        Reads (forms.budgets profile) text.now at (fields_read read.0) read.1) }
+    ensures refused { IfErr result (λ e. Refuses (forms.budgets profile) text.now at e) }
 {
     let (frame, at) = budget(text, at, profile, Budget::Frame)?;
     let (inner, at) = inner_budget(text, at, profile)?;
@@ -162,23 +142,11 @@ fn budgets(text: &[u8], at: usize, profile: Profile) -> Result<(BudgetFields, us
     let (c1, at) = budget(text, at, profile, Budget::C1)?;
     let (c2, end) = budget(text, at, profile, Budget::C2)?;
     let fields = BudgetFields {
-        held: Held {
-            frame: frame.held,
-            inner: inner.held,
-            component: [c0.held, c1.held, c2.held],
-        },
-        limits: Limits {
-            frame: frame.limit,
-            inner: inner.limit,
-            component: [c0.limit, c1.limit, c2.limit],
-        },
-        multipliers: [
-            frame.multiplier,
-            inner.multiplier,
-            c0.multiplier,
-            c1.multiplier,
-            c2.multiplier,
-        ],
+        frame,
+        inner,
+        c0,
+        c1,
+        c2,
     };
     Ok((fields, end))
 }
@@ -187,8 +155,9 @@ fn budgets(text: &[u8], at: usize, profile: Profile) -> Result<(BudgetFields, us
 fn sums(text: &[u8], at: usize) -> Result<(Totals, usize), CertRefusal>
     requires short { length text.now < 2 ^ 32 }
     requires within { at ≤ length text.now }
-    ensures stands { IfOk result (λ read. Stands text.now at
-        (sums read.0.passes read.0.undecoded read.0.distortion read.0.gap) read.1) }
+    ensures reads { IfOk result (λ read. Reads forms.sums text.now at
+        (read.0.passes, (read.0.undecoded, (read.0.distortion, read.0.gap))) read.1) }
+    ensures refused { IfErr result (λ e. Refuses forms.sums text.now at e) }
 {
     let (passes, at) = labelled(text, at, b" passes=", 0, u128::from(u64::MAX))?;
     let (undecoded, at) = labelled(text, at, b" empty=", 0, u128::MAX)?;
@@ -203,47 +172,93 @@ fn sums(text: &[u8], at: usize) -> Result<(Totals, usize), CertRefusal>
     Ok((read, end))
 }
 
+/// The bytes held of each budget.
+fn held_of(fields: BudgetFields) -> Held
+    ensures { result ≡ record {
+      frame = fields.frame.held;
+      inner = fields.inner.held;
+      component = fields.c0.held ∷ fields.c1.held ∷ fields.c2.held ∷ [];
+    } }
+{
+    Held {
+        frame: fields.frame.held,
+        inner: fields.inner.held,
+        component: [fields.c0.held, fields.c1.held, fields.c2.held],
+    }
+}
+
+/// The limit of each budget; none for the inner one of 2K.
+fn limits_of(fields: BudgetFields, profile: Profile) -> Limits
+    ensures { result ≡ record {
+      frame = fields.frame.limit;
+      inner = inner_limit profile fields.inner.limit;
+      component = fields.c0.limit ∷ fields.c1.limit ∷ fields.c2.limit ∷ [];
+    } }
+{
+    let inner = match profile {
+        Profile::TwoK => None,
+        Profile::FourK => Some(fields.inner.limit),
+    };
+    Limits {
+        frame: fields.frame.limit,
+        inner,
+        component: [fields.c0.limit, fields.c1.limit, fields.c2.limit],
+    }
+}
+
+/// The multiplier of each budget.
+fn multipliers_of(fields: BudgetFields) -> [u128; 5]
+    ensures { result ≡ fields.frame.multiplier ∷ fields.inner.multiplier ∷ fields.c0.multiplier
+        ∷ fields.c1.multiplier ∷ fields.c2.multiplier ∷ [] }
+{
+    [
+        fields.frame.multiplier,
+        fields.inner.multiplier,
+        fields.c0.multiplier,
+        fields.c1.multiplier,
+        fields.c2.multiplier,
+    ]
+}
+
 /// Reads a certificate line with its LF from bytes, fewer than 2^32, that are exactly one.
 ///
-/// BadLine if they aren't: the least place, counted from 0, at which no certificate line goes on as
-/// the bytes do; a number, its digits taken together, is judged at its first digit. A line of 2K
-/// says nothing of the inner budget, and 0 is read for its bytes and its multiplier.
+/// BadLine exactly if they aren't, unless out of memory: the least place, counted from 0, at which
+/// no certificate line goes on as the bytes do; a number, its digits taken together, is judged at
+/// its first digit. A line of 2K says nothing of the inner budget, and 0 is read for its bytes and
+/// its multiplier.
 pub fn read_cert(alloc: Global, text: &[u8]) -> Result<CertLine, CertRefusal>
     requires short { length text.now < 2 ^ 32 }
     ensures found { IfOk result (λ line. text.now ≡ cert_line line) }
     ensures said { IfOk result (λ line. IsSaid line) }
+    ensures only { IfOk result (λ line. (other : CertLine) → IsSaid other
+        → text.now ≡ cert_line other → values_of line ≡ values_of other) }
+    ensures bad { IfErr result (λ e. (place : ℕ) → e ≡ BadLine place → IsBadAt text.now place) }
 {
     let at = word(text, 0, b"ok ")?;
     let (name, at) = name(alloc, text, at)?;
-    let at = word(text, at, b" ")?;
     let (profile, at) = profile(text, at)?;
     let (width, height, at) = size(text, at, profile)?;
     let (fields, at) = budgets(text, at, profile)?;
     let (sums, at) = sums(text, at)?;
-    let (refused, at) = refused_steps(text, at, profile)?;
-    let end = word(text, at, b"\n")?;
+    let (refused, end) = refused_steps(text, at, profile)?;
     if end < text.len() {
         return Err(bad_line(end));
     }
-    let multipliers = fields.multipliers;
-    let (gap, distortion) = (sums.gap, sums.distortion);
     let certificate = Certificate {
-        multipliers,
-        gap,
-        distortion,
+        multipliers: multipliers_of(fields),
+        gap: sums.gap,
+        distortion: sums.distortion,
         refused,
     };
-    let (held, limits) = (fields.held, fields.limits);
-    let (passes, empty) = (sums.passes, sums.undecoded);
     Ok(CertLine {
         name,
         profile,
         width,
         height,
-        held,
-        limits,
-        passes,
-        empty,
+        held: held_of(fields),
+        limits: limits_of(fields, profile),
+        passes: sums.passes,
+        empty: sums.undecoded,
         certificate,
     })
 }

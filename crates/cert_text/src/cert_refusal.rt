@@ -1,5 +1,8 @@
 // Why bytes are no certificate line.
-use std::alloc::AllocError;
+ghost use Rattle.std.specs.Prelude.{◌≡◌};
+ghost use Rattle.cert_text.specs.declared.cert_refusal.CertRefusal.TheVariants.{Memory};
+
+use std::alloc::{AllocError, AllocFailed};
 
 /// Why there is no certificate line.
 #[derive(Clone, Copy, Debug, PartialEq, Eq)]
@@ -11,7 +14,17 @@ pub enum CertRefusal {
     Memory,
 }
 
+impl<T: Drop> From<AllocFailed<T>> for CertRefusal {
+    ghost from_gives = { λ _ e. e ≡ Memory };
+
+    fn from(_failed: AllocFailed<T>) -> CertRefusal {
+        CertRefusal::Memory
+    }
+}
+
 impl From<AllocError> for CertRefusal {
+    ghost from_gives = { λ _ e. e ≡ Memory };
+
     fn from(_error: AllocError) -> CertRefusal {
         CertRefusal::Memory
     }

@@ -1,4 +1,6 @@
 // Characters of a name in UTF-8 (Unicode, table 3-7), byte by byte.
+ghost use Rattle.std.specs.Prelude.{◌≡◌, ◌↔◌, IsTrue};
+ghost use Rattle.cert_text.specs.Characters.{between, begun, after};
 
 /// Where a character of a name may go on: how many bytes of it are left, and the range of the next
 /// one. With none left, any first byte of a character may come.
@@ -11,7 +13,9 @@ pub struct Character {
 
 impl Character {
     /// Between two characters.
-    pub fn between() -> Character {
+    pub fn between() -> Character
+        ensures { result ≡ between }
+    {
         Character {
             left: 0,
             least: 0,
@@ -20,12 +24,16 @@ impl Character {
     }
 
     /// Whether no character has begun.
-    pub fn is_between(self) -> bool {
+    pub fn is_between(self) -> bool
+        ensures { IsTrue result ↔ self.left ≡ 0 }
+    {
         self.left == 0
     }
 
     /// The rest of a character after its first byte; None for a byte that begins none.
-    fn begun(first: u8) -> Option<Character> {
+    fn begun(first: u8) -> Option<Character>
+        ensures { result ≡ begun first }
+    {
         let (left, least, most) = match first {
             0..=0x7F => return Some(Character::between()),
             0xC2..=0xDF => (1, 0x80, 0xBF),
@@ -41,7 +49,9 @@ impl Character {
     }
 
     /// The rest after one byte more; None where that byte can't come.
-    pub fn after(self, byte: u8) -> Option<Character> {
+    pub fn after(self, byte: u8) -> Option<Character>
+        ensures { result ≡ after self byte }
+    {
         if self.left == 0 {
             return Character::begun(byte);
         }

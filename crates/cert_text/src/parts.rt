@@ -3,6 +3,7 @@ ghost use Rattle.std.specs.Prelude.{◌≡◌, ◌++◌, ◌<◌, ◌≤◌, ◌
 ghost use Rattle.std.specs.Prelude.{ℕ, ◌≢◌, drop, IfErr};
 ghost use Rattle.cert_text.specs.Stands.{digits_before};
 ghost use Rattle.cert_text.specs.Stands.{Stands};
+ghost use Rattle.cert_text.specs.Forms.{exactly, labelled, Reads, Refuses};
 ghost use Rattle.cert_text.specs.declared.cert_refusal.CertRefusal.TheVariants.{BadLine};
 
 use crate::cert_refusal::CertRefusal;
@@ -19,7 +20,9 @@ pub fn bad_line(at: usize) -> CertRefusal
 pub fn word(text: &[u8], at: usize, word: &[u8]) -> Result<usize, CertRefusal>
     requires short { length text.now < 2 ^ 32 }
     requires within { at ≤ length text.now }
-    ensures { IfOk result (λ end. Stands text.now at word.now end) }
+    ensures stands { IfOk result (λ end. Stands text.now at word.now end) }
+    ensures reads { IfOk result (λ end. Reads (exactly word.now) text.now at tt end) }
+    ensures refused { IfErr result (λ e. Refuses (exactly word.now) text.now at e) }
 {
     let mut end = at;
     for byte in word {
@@ -76,10 +79,14 @@ pub fn labelled(
 ) -> Result<(u128, usize), CertRefusal>
     requires short { length text.now < 2 ^ 32 }
     requires within { at ≤ length text.now }
-    ensures stands { IfOk result (λ read. Stands text.now at (label.now ++ decimal read.0) read.1) }
+    ensures reads { IfOk result (λ read.
+        Reads (labelled label.now least most) text.now at read.0 read.1) }
+    ensures refused { IfErr result (λ e. least ≤ most
+        → Refuses (labelled label.now least most) text.now at e) }
     ensures least { IfOk result (λ read. least ≤ read.0) }
     ensures most { IfOk result (λ read. read.0 ≤ most) }
 {
     let at = word(text, at, label)?;
-    number(text, at, least, most)
+    let (value, end) = number(text, at, least, most)?;
+    Ok((value, end))
 }

@@ -30,7 +30,13 @@ fn written_lines_are_read(rt: HostRuntime) -> Result<(), Fail> {
     let alloc = rt.alloc();
     for text in LINES {
         match read_cert(alloc, text.as_bytes()) {
-            Ok(line) => assert_eq!(rt; write_cert(alloc, &line)?.as_str(), *text),
+            Ok(line) => {
+                assert_eq!(rt; write_cert(alloc, &line)?.as_str(), *text);
+                match read_back(alloc, &line) {
+                    Ok(again) => assert_eq!(rt; write_cert(alloc, &again)?.as_str(), *text),
+                    Err(_) => return Err(Fail::new("a line that isn't read back")),
+                }
+            }
             Err(_) => return Err(Fail::new("a line that isn't read")),
         }
     }

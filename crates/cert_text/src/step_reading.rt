@@ -1,14 +1,13 @@
 // Steps that budgets refused, read from a certificate line.
-ghost use Rattle.std.specs.Prelude.{◌≡◌, ◌≢◌, ◌++◌, ◌<◌, ◌≤◌, ◌^◌, length, decimal, codes, IfOk};
-ghost use Rattle.std.specs.Prelude.{IsTrue, true};
-ghost use Rattle.std.specs.List.{flat_map};
+ghost use Rattle.std.specs.Prelude.{◌≡◌, ◌<◌, ◌≤◌, ◌^◌, length, map, IfOk, IfErr, true};
 ghost use Rattle.cine_nums.specs.Limits.{has_inner};
 ghost use Rattle.cine_nums.specs.declared.budget.Budget.TheVariants.{Inner};
 ghost use Rattle.budget_duals.specs.Held.{place_of};
 ghost use Rattle.cert_text.specs.Words.{budget_word};
-ghost use Rattle.cert_text.specs.Reading.{AreSteps};
-ghost use Rattle.cert_text.specs.Lines.{step_field};
 ghost use Rattle.cert_text.specs.Stands.{Stands};
+ghost use Rattle.cert_text.specs.Forms.{Reads, Refuses};
+ghost use Rattle.cert_text.specs.LineForms as forms;
+ghost use Rattle.cert_text.specs.LineForms.{Misses, step_values};
 
 use crate::cert_line::place_of;
 use crate::cert_refusal::CertRefusal;
@@ -19,13 +18,33 @@ use budget_duals::RefusedStep;
 use cine_nums::{Budget, Profile};
 use rd_hulls::Step;
 
-/// Whether a line of the profile may have a step of this budget, whose place is to be `least` or a
-/// later one.
-fn may_follow(profile: Profile, least: usize, budget: Budget) -> bool
-    ensures rises { IsTrue result → least ≤ place_of budget }
-    ensures inner { IsTrue result → budget ≡ Inner → has_inner profile ≡ true }
+/// The budget of a place, the outermost at 0.
+fn budget_at(place: usize) -> Budget
+    requires { place < 5 }
+    ensures { place_of result ≡ place }
 {
-    least <= place_of(budget) && (profile.has_inner() || budget != Budget::Inner)
+    match place {
+        0 => Budget::Frame,
+        1 => Budget::Inner,
+        2 => Budget::C0,
+        3 => Budget::C1,
+        _ => Budget::C2,
+    }
+}
+
+/// Reads the word of this budget, if the profile has it, and returns the place after it.
+fn budget_of(text: &[u8], at: usize, profile: Profile, budget: Budget) -> Result<usize, CertRefusal>
+    requires short { length text.now < 2 ^ 32 }
+    requires within { at ≤ length text.now }
+    ensures stands { IfOk result (λ end. Stands text.now at (budget_word budget) end) }
+    ensures inner { IfOk result (λ _. budget ≡ Inner → has_inner profile ≡ true) }
+    ensures refused { IfErr result (λ e. Misses profile budget text.now at e) }
+{
+    if budget == Budget::Inner && !profile.has_inner() {
+        return Err(bad_line(at));
+    }
+    let end = word(text, at, budget_word(budget).as_bytes())?;
+    Ok(end)
 }
 
 /// Reads the word of a budget whose place is `least` or a later one, and returns the place after it
@@ -38,24 +57,18 @@ fn budget(
 ) -> Result<(Budget, usize), CertRefusal>
     requires short { length text.now < 2 ^ 32 }
     requires within { at ≤ length text.now }
-    ensures stands { IfOk result (λ read. Stands text.now at (budget_word read.0) read.1) }
-    ensures rises { IfOk result (λ read. least ≤ place_of read.0) }
-    ensures inner { IfOk result (λ read. read.0 ≡ Inner → has_inner profile ≡ true) }
+    ensures reads { IfOk result (λ read.
+        Reads (forms.step_budget profile least) text.now at read.0 read.1) }
+    ensures refused { IfErr result (λ e. least ≤ 4
+        → Refuses (forms.step_budget profile least) text.now at e) }
 {
     let mut furthest = at as u32;
-    for budget in [
-        Budget::Frame,
-        Budget::Inner,
-        Budget::C0,
-        Budget::C1,
-        Budget::C2,
-    ] {
-        if may_follow(profile, least, budget) {
-            match word(text, at, budget_word(budget).as_bytes()) {
-                Ok(end) => return Ok((budget, end)),
-                Err(CertRefusal::BadLine(place)) => furthest = furthest.max(place),
-                Err(CertRefusal::Memory) => return Err(CertRefusal::Memory),
-            }
+    for place in least..5 {
+        let budget = budget_at(place);
+        match budget_of(text, at, profile, budget) {
+            Ok(end) => return Ok((budget, end)),
+            Err(CertRefusal::BadLine(found)) => furthest = furthest.max(found),
+            Err(CertRefusal::Memory) => return Err(CertRefusal::Memory),
         }
     }
     Err(CertRefusal::BadLine(furthest))
@@ -65,9 +78,8 @@ fn budget(
 fn counts(text: &[u8], at: usize) -> Result<(u8, u8, usize), CertRefusal>
     requires short { length text.now < 2 ^ 32 }
     requires within { at ≤ length text.now }
-    ensures stands { IfOk result (λ read. Stands text.now at
-        (codes ":" ++ (decimal read.0 ++ (codes ":" ++ decimal read.1))) read.2) }
-    ensures moves { IfOk result (λ read. read.0 ≢ read.1) }
+    ensures reads { IfOk result (λ read. Reads forms.counts text.now at (read.0, read.1) read.2) }
+    ensures refused { IfErr result (λ e. Refuses forms.counts text.now at e) }
 {
     let (from, at) = labelled(text, at, b":", 0, 255)?;
     let at = word(text, at, b":")?;
@@ -82,11 +94,10 @@ fn counts(text: &[u8], at: usize) -> Result<(u8, u8, usize), CertRefusal>
 fn step(text: &[u8], at: usize, budget: Budget) -> Result<(RefusedStep, usize), CertRefusal>
     requires short { length text.now < 2 ^ 32 }
     requires within { at ≤ length text.now }
-    ensures stands { IfOk result (λ read. Stands text.now at (codes ":" ++ (decimal read.0.step.block
-        ++ ((codes ":" ++ (decimal read.0.step.from ++ (codes ":" ++ decimal read.0.step.to)))
-        ++ ((codes ":" ++ decimal read.0.step.len) ++ ((codes ":" ++ decimal read.0.grow)
-        ++ ((codes ":" ++ decimal read.0.step.gain) ++ (codes ":" ++ decimal read.0.price))))))) read.1) }
+    ensures reads { IfOk result (λ read.
+        Reads forms.numbers text.now at (step_values read.0).1 read.1) }
     ensures budget { IfOk result (λ read. read.0.budget ≡ budget) }
+    ensures refused { IfErr result (λ e. Refuses forms.numbers text.now at e) }
 {
     let (block, at) = labelled(text, at, b":", 0, u128::from(u32::MAX))?;
     let (from, to, at) = counts(text, at)?;
@@ -119,16 +130,18 @@ fn refused_step(
 ) -> Result<(RefusedStep, usize), CertRefusal>
     requires short { length text.now < 2 ^ 32 }
     requires within { at ≤ length text.now }
-    ensures stands { IfOk result (λ read. Stands text.now at (step_field read.0) read.1) }
-    ensures rises { IfOk result (λ read. least ≤ place_of read.0.budget) }
-    ensures inner { IfOk result (λ read. read.0.budget ≡ Inner → has_inner profile ≡ true) }
+    ensures reads { IfOk result (λ read.
+        Reads (forms.step profile least) text.now at (step_values read.0) read.1) }
+    ensures refused { IfErr result (λ e. least ≤ 4
+        → Refuses (forms.step profile least) text.now at e) }
 {
     let at = word(text, at, b" step=")?;
     let (budget, at) = budget(text, at, profile, least)?;
-    step(text, at, budget)
+    let (refused, end) = step(text, at, budget)?;
+    Ok((refused, end))
 }
 
-/// Reads the steps that budgets refused, up to the LF, and returns its place too.
+/// Reads the steps that budgets refused and the LF after them, and returns the place after it too.
 pub fn refused_steps(
     text: &[u8],
     at: usize,
@@ -136,23 +149,22 @@ pub fn refused_steps(
 ) -> Result<(ArrayVec<RefusedStep, 5>, usize), CertRefusal>
     requires short { length text.now < 2 ^ 32 }
     requires within { at ≤ length text.now }
-    ensures stands { IfOk result (λ read. Stands text.now at
-        (flat_map step_field read.0.items) read.1) }
-    ensures steps { IfOk result (λ read. AreSteps profile read.0.items) }
+    ensures reads { IfOk result (λ read.
+        Reads (forms.steps profile 0) text.now at (map step_values read.0.items) read.1) }
+    ensures refused { IfErr result (λ e. Refuses (forms.steps profile 0) text.now at e) }
 {
     let mut refused = ArrayVec::new();
     let mut least = 0;
     let mut end = at;
-    for _ in 0..5u8 {
-        if least == 5 || (end < text.len() && text[end] == b'\n') {
-            break;
+    while least < 5 {
+        if end < text.len() && text[end] == b'\n' {
+            return Ok((refused, end + 1));
         }
         let (step, next) = refused_step(text, end, profile, least)?;
         least = place_of(step.budget) + 1;
-        if refused.try_push(step).is_err() {
-            return Err(bad_line(end));
-        }
+        refused.push(step);
         end = next;
     }
+    let end = word(text, end, b"\n")?;
     Ok((refused, end))
 }

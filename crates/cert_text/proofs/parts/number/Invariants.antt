@@ -10,6 +10,7 @@ invariant-loop-i l = record {
   later : l.at ≤ l.end;
   most : l.at < l.end → l.value ≤ l.most;
   none : l.at ≡ l.end → l.value ≡ 0;
-  digits : l.at < l.end → digits_before (drop l.at l.text) ≡ decimal l.value ++ digits_before (drop l.end l.text);
+  digits : l.at < l.end → digits_before (drop l.at l.text) ≡ decimal l.value ++ digits_before
+      (drop l.end l.text);
   stands : l.at < l.end → Stands l.text l.at (decimal l.value) l.end;
 }
