@@ -11,3 +11,4 @@ pub mod Certify
 pub mod FewBlocks
 pub mod BlockSteps
 pub mod Ready
+pub mod HeaderBytes

@@ -1,5 +1,7 @@
 -- Choices of passes, rivals, and what budgets hold.
 pub mod Choice
+-- What the headers of a choice hold, and what fits beside them.
+pub mod Headers
 -- Blocks by their numbers.
 pub mod Blocks
 pub mod NumberLaws

@@ -6,11 +6,13 @@
 //! gives the steps of the hulls of all blocks. [`choose`] walks over both (`budget_duals`), from the
 //! steepest step to the flattest, and returns its choice with a certificate: `IsChosen` of
 //! specs/Chosen.antt bounds how much better any other choice of passes could be. The only refusal
-//! is out of memory.
+//! is out of memory. The law [`headers_and_bodies`] says what a budget holds beside the headers: the
+//! body bytes, by which the other choices are counted.
 #![tactic(auto)]
 
 mod allocation;
 mod coded;
+mod laws;
 mod points;
 mod price;
 #[cfg(test)]
@@ -18,5 +20,6 @@ mod tests;
 
 pub use allocation::{Choice, choose};
 pub use coded::CodedFrame;
+pub use laws::headers_and_bodies;
 pub use points::steps;
 pub use price::FramePrice;
