@@ -1,4 +1,3 @@
 mod BandLaw
 mod BandSteps
 mod Rows
-mod Undecoded

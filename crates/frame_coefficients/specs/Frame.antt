@@ -1,12 +1,11 @@
 -- The coefficients of a frame, from its samples on: the component transform (ISO/IEC 15444-1, Annex
 -- G.3), the wavelet transform of each component (Annex F) and the quantiser (Annex E).
-use Rattle.std.specs.Prelude.{ℕ, zero, suc, ◌+◌, ℤ, List}
+use Rattle.std.specs.Prelude.{ℕ, zero, suc, ℤ, List}
 use Rattle.colour_ict.specs.Ict.{component0, component1, component2}
 use Rattle.colour_ict.specs.Pointwise.{pointwise}
 use Rattle.dz_quantiser.specs.Coefficient.{Coefficient}
 use Rattle.dz_quantiser.specs.declared.steps.StepSizes.{StepSizes}
 use Rattle.lift97_fixed.specs.Plane.{plane_transform}
-use Rattle.frame_coefficients.specs.Distortion.{undecoded_distortion}
 use Rattle.frame_coefficients.specs.Places.{quantised}
 
 -- component 0, 1 or 2 of pixels with the samples xs, ys, zs, in raster order
@@ -21,11 +20,3 @@ unfoldable pub coefficients_of : ℕ → ℕ → ℕ → StepSizes → ℕ → L
     List Coefficient
 coefficients_of levels width height steps c xs ys zs =
     quantised levels width height steps (plane_transform levels width height (component c xs ys zs))
-
--- the distortion of a frame of which nothing is decoded: the sum over the coefficients of all
--- components
-unfoldable pub frame_undecoded_distortion : ℕ → ℕ → ℕ → StepSizes → List ℕ → List ℕ → List ℕ → ℕ
-frame_undecoded_distortion levels width height steps xs ys zs =
-    undecoded_distortion (coefficients_of levels width height steps 0 xs ys zs)
-    + undecoded_distortion (coefficients_of levels width height steps 1 xs ys zs)
-    + undecoded_distortion (coefficients_of levels width height steps 2 xs ys zs)

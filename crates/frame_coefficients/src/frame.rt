@@ -6,11 +6,9 @@ ghost use Rattle.codeblock_views.specs.Magnitudes.{AreSmall};
 ghost use Rattle.dz_quantiser.specs.Bands.{AreUsable};
 ghost use Rattle.lift97_fixed.specs.Plane.{plane_transform};
 ghost use Rattle.frame_coefficients.specs.Frame.{component, coefficients_of};
-ghost use Rattle.frame_coefficients.specs.Frame.{frame_undecoded_distortion};
 ghost use Rattle.frame_coefficients.specs.Places.{quantised};
 ghost use Rattle.frame_coefficients.specs.Planes.{HasSize, AreBelow, ArePlain};
 
-use crate::distortion::undecoded_distortion;
 use crate::quantise::quantise_plane;
 use band_geometry::Geometry;
 use codeblock_views::CoefPlane;
@@ -25,8 +23,6 @@ pub struct FrameCoefficients {
     pub c0: CoefPlane,
     pub c1: CoefPlane,
     pub c2: CoefPlane,
-    /// The distortion of the frame while nothing is decoded, in units of half a step squared.
-    pub undecoded_distortion: u128,
 }
 
 /// The component transform of all pixels, each component into a plane of its own.
@@ -99,8 +95,7 @@ fn coefs_of(
 /// geometry's levels (Annex F), and the index of each place by the step of its band (Annex E).
 ///
 /// Each magnitude is below 2 to the number of magnitude bit-planes of its band, and so below
-/// `2^20`; an index of 0 has the sign plus; the distortion is below `2^68`. The only refusal is out
-/// of memory.
+/// `2^20`; an index of 0 has the sign plus. The only refusal is out of memory.
 pub fn coefficients(
     alloc: Global,
     geometry: &Geometry,
@@ -122,9 +117,6 @@ pub fn coefficients(
         coefficients_of geometry.now.levels geometry.now.width geometry.now.height steps.now 1 x.now y.now z.now) }
     ensures c2 { IfOk result (λ q. q.c2.cells.items ≡
         coefficients_of geometry.now.levels geometry.now.width geometry.now.height steps.now 2 x.now y.now z.now) }
-    ensures undecoded { IfOk result (λ q. q.undecoded_distortion ≡
-        frame_undecoded_distortion geometry.now.levels geometry.now.width geometry.now.height steps.now x.now y.now z.now) }
-    ensures small { IfOk result (λ q. q.undecoded_distortion < 2 ^ 68) }
     ensures size { IfOk result
         (λ q. HasSize geometry.now q.c0 × HasSize geometry.now q.c1 × HasSize geometry.now q.c2) }
     ensures magnitudes { IfOk result (λ q.
@@ -144,15 +136,7 @@ pub fn coefficients(
     let c0 = coefs_of(alloc, geometry, steps, plane0, scratch.as_mut_slice())?;
     let c1 = coefs_of(alloc, geometry, steps, plane1, scratch.as_mut_slice())?;
     let c2 = coefs_of(alloc, geometry, steps, plane2, scratch.as_mut_slice())?;
-    let undecoded_distortion = undecoded_distortion(&c0)
-        + undecoded_distortion(&c1)
-        + undecoded_distortion(&c2);
-    Ok(FrameCoefficients {
-        c0,
-        c1,
-        c2,
-        undecoded_distortion,
-    })
+    Ok(FrameCoefficients { c0, c1, c2 })
 }
 
 #[cfg(test)]
@@ -201,7 +185,6 @@ mod tests {
         assert_eq!(rt; signed(rt.alloc(), &frame.c0)?.as_slice(), c0.as_slice());
         assert_eq!(rt; signed(rt.alloc(), &frame.c1)?.as_slice(), c1.as_slice());
         assert_eq!(rt; signed(rt.alloc(), &frame.c2)?.as_slice(), c2.as_slice());
-        assert_eq!(rt; frame.undecoded_distortion, 1538582757);
         Ok(())
     }
 
@@ -212,38 +195,49 @@ mod tests {
         let grey = coefficients(rt.alloc(), &geometry, &steps, &[2049], &[2049], &[2049])?;
         let first = Coef::new(64, false);
         assert_eq!(rt; grey.c0.cells.as_slice(), [first].as_slice());
-        assert_eq!(rt; grey.undecoded_distortion, 16641);
         let black = coefficients(rt.alloc(), &geometry, &steps, &[0], &[0], &[0])?;
         let first = Coef::new(131072, true);
         assert_eq!(rt; black.c0.cells.as_slice(), [first].as_slice());
-        assert_eq!(rt; black.undecoded_distortion, 68720001025);
         let white = coefficients(rt.alloc(), &geometry, &steps, &[4095], &[4095], &[4095])?;
-        assert_eq!(rt; white.undecoded_distortion, 68652908289);
+        let first = Coef::new(131008, false);
+        assert_eq!(rt; white.c0.cells.as_slice(), [first].as_slice());
         Ok(())
     }
 
-    /// The distortion of a frame of the profile's largest size whose samples are all 2049.
-    fn grey(alloc: Global, profile: Profile) -> Result<u128, AllocError> {
+    /// How many places of component 0 have the index `first`, and how many the index 0, in a frame
+    /// of the profile's largest size whose samples are all 2049.
+    fn grey(alloc: Global, profile: Profile, first: Coef) -> Result<(u32, u32), AllocError> {
         let (width, height) = (profile.max_width(), profile.max_height());
         let geometry = Geometry::new(profile, profile.levels(), width, height);
         let samples = vec![in alloc; 2049; width as usize * height as usize]?;
         let samples = samples.as_slice();
         let steps = StepSizes::built_in(profile);
         let frame = coefficients(alloc, &geometry, &steps, samples, samples, samples)?;
-        Ok(frame.undecoded_distortion)
+        let (mut with_first, mut with_zero) = (0u32, 0u32);
+        for coef in frame.c0.cells.as_slice() {
+            if *coef == first {
+                with_first = with_first.saturating_add(1);
+            }
+            if *coef == Coef::zero() {
+                with_zero = with_zero.saturating_add(1);
+            }
+        }
+        Ok((with_first, with_zero))
     }
 
     // Each of the 64 by 34 places of LL has the index 64; all others are 0.
     #[test]
     fn a_frame_of_the_largest_size_of_2k(rt: HostRuntime) -> Result<(), Fail> {
-        assert_eq!(rt; grey(rt.alloc(), Profile::TwoK)?, 64 * 34 * 16641);
+        let counts = grey(rt.alloc(), Profile::TwoK, Coef::new(64, false))?;
+        assert_eq!(rt; counts, (64 * 34, 2048 * 1080 - 64 * 34));
         Ok(())
     }
 
     // The index 128 there.
     #[test]
     fn a_frame_of_the_largest_size_of_4k(rt: HostRuntime) -> Result<(), Fail> {
-        assert_eq!(rt; grey(rt.alloc(), Profile::FourK)?, 64 * 34 * 66049);
+        let counts = grey(rt.alloc(), Profile::FourK, Coef::new(128, false))?;
+        assert_eq!(rt; counts, (64 * 34, 4096 * 2160 - 64 * 34));
         Ok(())
     }
 }

@@ -1,8 +1,9 @@
+mod Products
 pub mod ApartLemmas
 pub mod Casts
-pub mod Lines
-pub mod Planes
-pub mod Written
-pub mod Moves
 pub mod Levels
+pub mod Lines
+pub mod Moves
+pub mod Planes
 pub mod RowParts
+pub mod Written

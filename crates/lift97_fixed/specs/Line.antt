@@ -1,7 +1,7 @@
 -- The irreversible 9-7 wavelet transform of one line in fixed point: ISO/IEC 15444-1, Annex F.4
 -- (1D_SD, 1D_EXTD, 1D_FILTD 9-7 and the split of 2D_DEINTERLEAVE).
 use Rattle.std.specs.Prelude.{ℕ, suc, zero, ◌+◌, ◌-◌, ◌*◌, ◌/◌, ◌%◌, ℤ, pos, negsuc, ◌+ℤ◌, List, []}
-use Rattle.std.specs.Prelude.{◌∷◌, ◌++◌, map, length, slice_index_or, nat_lt, nat_eq, if◌then◌else◌}
+use Rattle.std.specs.Prelude.{◌≡◌, ◌⊎◌, ◌∷◌, ◌++◌, map, length, slice_index_or, nat_lt, nat_eq, if◌then◌else◌}
 use Rattle.std.specs.List.{range_with_len}
 use Rattle.cine_nums.specs.Fixed.{mul16, limit30}
 
@@ -24,6 +24,13 @@ scaling = pos 80621
 
 abbrev pub inverse_scaling : ℤ
 inverse_scaling = pos 53274
+
+-- c is a lifting parameter, or a factor of the scaling
+abbrev pub IsParameter : ℤ → Type 0
+IsParameter c = (c ≡ alpha) ⊎ ((c ≡ beta) ⊎ ((c ≡ gamma) ⊎ (c ≡ delta)))
+
+abbrev pub IsScaling : ℤ → Type 0
+IsScaling c = (c ≡ scaling) ⊎ (c ≡ inverse_scaling)
 
 -- the sample at place i
 abbrev pub at : List ℤ → ℕ → ℤ

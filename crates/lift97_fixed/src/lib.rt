@@ -16,6 +16,7 @@
 
 mod line;
 mod plane;
+mod steps;
 mod transform;
 mod vertical;
 

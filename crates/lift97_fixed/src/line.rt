@@ -1,24 +1,11 @@
 // The transform of one line of samples.
-ghost use Rattle.std.specs.Prelude.{◌≡◌, ℕ, ◌+◌, ◌-◌, ◌/◌, ◌<◌, ◌≤◌, ℤ, ◌+ℤ◌, List, length, All};
-ghost use Rattle.cine_nums.specs.Fixed.{mul16, limit30, Within30};
+ghost use Rattle.std.specs.Prelude.{◌≡◌, ℕ, ◌+◌, ◌-◌, ◌/◌, ◌<◌, ◌≤◌, ℤ, List, length, All};
+ghost use Rattle.cine_nums.specs.Fixed.{Within30};
 ghost use Rattle.lift97_fixed.specs.Apart.{IsApart};
-ghost use Rattle.lift97_fixed.specs.Line.{left_of, right_of, lifted, scaled, lift, scale, split};
+ghost use Rattle.lift97_fixed.specs.Line.{left_of, right_of, lift, scale, split, IsParameter};
 ghost use Rattle.lift97_fixed.specs.Line.{scaling, inverse_scaling, line_transform};
 
-use cine_nums::{limit30, mul16};
-
-/// The lifting parameters, K and 1/K over 65,536.
-pub const ALPHA: i32 = -103949;
-
-pub const BETA: i32 = -3472;
-
-pub const GAMMA: i32 = 57862;
-
-pub const DELTA: i32 = 29066;
-
-pub const K: i32 = 80621;
-
-pub const INVERSE_K: i32 = 53274;
+use crate::steps::{ALPHA, BETA, DELTA, GAMMA, INVERSE_K, K, lifted, scaled};
 
 /// The place to the left of place `i`, mirrored at the start of the line.
 #[inline]
@@ -38,30 +25,8 @@ pub fn right_of(n: usize, i: usize) -> usize
     if i + 1 < n { i + 1 } else { n - 2 }
 }
 
-/// A sample after a lifting step.
-#[inline]
-#[tactic(auto, unfolding(crate::specs::Line::lifted))]
-pub fn lifted(c: i32, cell: i32, left: i32, right: i32) -> i32
-    requires left { Within30 left }
-    requires right { Within30 right }
-    ensures value { result ≡ lifted c cell left right }
-    ensures within { Within30 result }
-{
-    limit30(cell as i64 + mul16(c, left + right))
-}
-
-/// A sample after the scaling.
-#[inline]
-#[tactic(auto, unfolding(crate::specs::Line::scaled))]
-pub fn scaled(c: i32, cell: i32) -> i32
-    ensures value { result ≡ scaled c cell }
-    ensures within { Within30 result }
-{
-    limit30(mul16(c, cell))
-}
-
 /// Puts the samples at even places into `lows` and those at odd places into `highs`.
-#[inline]
+#[inline(always)]
 fn take_apart(line: &[i32], lows: &mut [i32], highs: &mut [i32])
     requires low { length lows.old ≡ length line.now - length line.now / 2 }
     requires high { length highs.old ≡ length line.now / 2 }
@@ -77,8 +42,9 @@ fn take_apart(line: &[i32], lows: &mut [i32], highs: &mut [i32])
 }
 
 /// The lifting step with parameter `c` at the odd places of a line that is taken apart.
-#[inline]
+#[inline(always)]
 fn lift_highs(lows: &[i32], highs: &mut [i32], c: i32)
+    requires parameter { IsParameter c }
     requires some { 1 ≤ length highs.old }
     requires at_least { length highs.old ≤ length lows.now }
     requires at_most { length lows.now ≤ length highs.old + 1 }
@@ -98,8 +64,9 @@ fn lift_highs(lows: &[i32], highs: &mut [i32], c: i32)
 }
 
 /// The lifting step with parameter `c` at the even places of a line that is taken apart.
-#[inline]
+#[inline(always)]
 fn lift_lows(lows: &mut [i32], highs: &[i32], c: i32)
+    requires parameter { IsParameter c }
     requires some { 1 ≤ length highs.now }
     requires at_least { length highs.now ≤ length lows.old }
     requires at_most { length lows.old ≤ length highs.now + 1 }
@@ -120,7 +87,7 @@ fn lift_lows(lows: &mut [i32], highs: &[i32], c: i32)
 }
 
 /// The scaling of a line that is taken apart: the low-pass samples first, then the high-pass ones.
-#[inline]
+#[inline(always)]
 fn scale_and_join(line: &mut [i32], lows: &[i32], highs: &[i32])
     requires same { length line.old ≡ length lows.now + length highs.now }
     requires cells { All Within30 line.old }

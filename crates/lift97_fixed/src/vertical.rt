@@ -3,14 +3,16 @@ ghost use Rattle.std.specs.Prelude.{◌≡◌, ◌≢◌, ℕ, ◌<◌, ◌≤�
 ghost use Rattle.std.specs.Prelude.{All};
 ghost use Rattle.cine_nums.specs.Fixed.{Within30};
 ghost use Rattle.lift97_fixed.specs.Line.{at, lifted, scaled, lift, scale, split, source_of};
-ghost use Rattle.lift97_fixed.specs.Line.{line_transform};
+ghost use Rattle.lift97_fixed.specs.Line.{line_transform, IsParameter, IsScaling};
 ghost use Rattle.lift97_fixed.specs.Plane.{cell, columns};
 
-use crate::line::{ALPHA, BETA, DELTA, GAMMA, INVERSE_K, K, left_of, lifted, right_of, scaled};
+use crate::line::{left_of, right_of};
+use crate::steps::{ALPHA, BETA, DELTA, GAMMA, INVERSE_K, K, lifted, scaled};
 
 /// The lifting step with parameter `c` of the cells of a row, from the rows above and below it.
-#[inline]
+#[inline(always)]
 fn lift_between(line: &mut [i32], above: &[i32], below: &[i32], c: i32)
+    requires parameter { IsParameter c }
     requires above_count { length above.now ≡ length line.old }
     requires below_count { length below.now ≡ length line.old }
     requires line { All Within30 line.old }
@@ -27,7 +29,7 @@ fn lift_between(line: &mut [i32], above: &[i32], below: &[i32], c: i32)
 
 /// The first `width` cells of row `row` of a plane, `before` having its rows before row `y` and
 /// `after` those after it.
-#[inline]
+#[inline(always)]
 fn row_beside<'a>(
     before: &'a [i32],
     after: &'a [i32],
@@ -55,6 +57,7 @@ fn row_beside<'a>(
 
 /// The lifting step with parameter `c` of the first `width` cells of row `y`, from the rows `above`
 /// and `below`. A row has `stride` cells.
+#[inline(always)]
 fn lift_row(
     cells: &mut [i32],
     stride: usize,
@@ -64,6 +67,7 @@ fn lift_row(
     below: usize,
     c: i32,
 )
+    requires parameter { IsParameter c }
     requires width { width ≤ stride }
     requires here { y * stride + stride ≤ length cells.old }
     requires above { above * stride + stride ≤ length cells.old × above ≢ y }
@@ -85,7 +89,9 @@ fn lift_row(
 
 /// The lifting step with parameter `c` along the first `width` columns of `height` rows, at the odd
 /// rows (`first` is 1) or at the even ones (0).
+#[inline(always)]
 fn lift_rows(cells: &mut [i32], stride: usize, width: usize, height: usize, first: usize, c: i32)
+    requires parameter { IsParameter c }
     requires parity { first < 2 }
     requires width { 1 ≤ stride × width ≤ stride }
     requires height { 2 ≤ height × height * stride ≤ length cells.old }
@@ -100,7 +106,9 @@ fn lift_rows(cells: &mut [i32], stride: usize, width: usize, height: usize, firs
 }
 
 /// The scaling by `c` of the first `width` cells of row `y`.
+#[inline(always)]
 fn scale_row(cells: &mut [i32], stride: usize, width: usize, y: usize, c: i32)
+    requires factor { IsScaling c }
     requires width { width ≤ stride }
     requires here { y * stride + stride ≤ length cells.old }
     requires cells { All Within30 cells.old }
@@ -117,7 +125,9 @@ fn scale_row(cells: &mut [i32], stride: usize, width: usize, y: usize, c: i32)
 
 /// The scaling by `c` along the first `width` columns of `height` rows, at the odd rows (`first` is
 /// 1) or at the even ones (0).
+#[inline(always)]
 fn scale_rows(cells: &mut [i32], stride: usize, width: usize, height: usize, first: usize, c: i32)
+    requires factor { IsScaling c }
     requires parity { first < 2 }
     requires width { 1 ≤ stride × width ≤ stride }
     requires height { height * stride ≤ length cells.old }

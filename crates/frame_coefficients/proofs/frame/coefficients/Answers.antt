@@ -1,5 +1,4 @@
-use Rattle.std.proofs.Common.{refl}
-use Rattle.frame_coefficients.specs.Frame.{coefficients_of, frame_undecoded_distortion}
+use Rattle.frame_coefficients.specs.Frame.{coefficients_of}
 use Rattle.frame_coefficients.proofs.frame.coefficients.Goals as goal
 
 pub returns-clause-c0 : goal.returns-clause-c0
@@ -13,15 +12,3 @@ returns-clause-c1 c = rw c.mix.ensures.cells1 at c.in_ok-c1.ensures.value
 pub returns-clause-c2 : goal.returns-clause-c2
 unfolding coefficients_of
 returns-clause-c2 c = rw c.mix.ensures.cells2 at c.in_ok-c2.ensures.value
-
-pub returns-clause-undecoded : goal.returns-clause-undecoded
-unfolding frame_undecoded_distortion
-returns-clause-undecoded c =
-    rw (
-      c.undecoded_distortion.ensures.value,
-      c.undecoded_distortion-2.ensures.value,
-      c.undecoded_distortion-3.ensures.value,
-      returns-clause-c0 c,
-      returns-clause-c1 c,
-      returns-clause-c2 c,
-    ) refl

@@ -62,3 +62,6 @@ returns-else-inner-highs-clause-value c = λ xs apart.
     subst (λ z. IsApart (lift z 1 xs) lows c.loop-k.highs) (passed_fits c.args.c c.ranges.c)
     (highs_lifted (passed c.args.c) c.loop-k.k xs lows highs c.loop-k.highs
     (omega (arith, size, c.if-inner-highs.false, c.loop-k-test.false)) c.loop-k.invariant apart)
+
+pub returns-then-inner-highs-clause-within : goal.returns-then-inner-highs-clause-within
+returns-then-inner-highs-clause-within c = let l = last_filled c in l.within
