@@ -4,7 +4,7 @@ use Rattle.std.proofs.Common.{of_z, FitsSigned, arith, refl, sym, ◌∙◌, ap,
 use Rattle.std.specs.Int.{int_min, int_max}
 use Rattle.std.specs.Int.Signed.{shr_z}
 use Rattle.std.specs.Int.RustNames.{unsigned_abs}
-use Rattle.std.proofs.lemmas.Int.{ints, clamps, to_z-of_z, unsigned_abs-mul, by_lt_z}
+use Rattle.std.proofs.lemmas.Int.{ints, clamps, unsigned_abs-mul, by_lt_z}
 use Rattle.lift97_fixed.proofs.Casts.{passed, passed_within}
 use Rattle.std.proofs.Math.IntN.{*ℤ_comm, negsuc-*ℤ-pos, negsuc-*ℤ-negsuc}
 use Rattle.std.proofs.Math.Nat.{mul-le-mul}
@@ -270,6 +270,13 @@ is_small c p a g = elim p [
   ]
 ]
 
+pub is_delta : (c : ℤ) → IsParameter c → (c ≡ alpha → ⊥) → (c ≡ beta → ⊥) → (c ≡ gamma → ⊥) →
+    c ≡ delta
+is_delta c p a b g = elim (is_small c p a g) [ inl e ↦ absurd (b e) | inr e ↦ e ]
+
+pub is_inverse : (c : ℤ) → IsScaling c → (c ≡ scaling → ⊥) → c ≡ inverse_scaling
+is_inverse c p n = elim p [ inl e ↦ absurd (n e) | inr e ↦ e ]
+
 -- the fraction f that a small parameter takes of a sum is in the range of samples
 pub record IsInRange (f : ℤ) : Type 0 where
   pub low : negsuc 1073741823 ≤ℤ f
@@ -352,3 +359,20 @@ scaled_step c cell f s w e = elim s [
         value = rw is (inverse_split cell f r);
       }
 ]
+
+-- 1/K of a sample is in the range of samples
+pub record IsInverse (cell f : ℤ) : Type 0 where
+  pub within : Within30 (cell +ℤ f)
+  pub value : cell +ℤ f ≡ limit30 (cell +ℤ f)
+
+pub inverse_step : (cell f : ℤ) → Within30 cell → f ≡ mul16 (negsuc 12261) cell → IsInverse cell f
+inverse_step cell f w e =
+    let r : IsRounded (negsuc 12261) cell f = rw e (rounded (negsuc 12261) cell) in
+    let a = r.low in
+    let b = r.high in
+    let low : negsuc 1073741823 ≤ℤ (cell +ℤ f) = omega (arith, ints, a, b, w) in
+    let high : (cell +ℤ f) ≤ℤ pos 1073741823 = omega (arith, ints, a, b, w) in
+    record {
+      within = (low, high);
+      value = let e = limit30_is (cell +ℤ f) in omega (arith, ints, clamps, e, low, high);
+    }

@@ -85,7 +85,7 @@ pub fn lifted(c: i32, cell: i32, left: i32, right: i32) -> i32
     }
 }
 
-/// A sample after the scaling by [`K`] or [`INVERSE_K`].
+/// A sample after the scaling by [`K`] or [`INVERSE_K`], of which the second reaches no limit.
 #[inline(always)]
 pub fn scaled(c: i32, cell: i32) -> i32
     requires factor { IsScaling c }
@@ -93,5 +93,10 @@ pub fn scaled(c: i32, cell: i32) -> i32
     ensures value { result ≡ scaled c cell }
     ensures within { Within30 result }
 {
-    (cell + fraction(c - 65536, cell)).max(LOWEST).min(HIGHEST)
+    let product = cell + fraction(c - 65536, cell);
+    if c == K {
+        product.max(LOWEST).min(HIGHEST)
+    } else {
+        product
+    }
 }

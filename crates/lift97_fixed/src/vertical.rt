@@ -27,6 +27,31 @@ fn lift_between(line: &mut [i32], above: &[i32], below: &[i32], c: i32)
     }
 }
 
+/// The same, with a loop of its own for each parameter.
+// A constant makes shorter products; rows that are known to be of one slice make no vectors.
+#[inline(never)]
+fn lift_line(line: &mut [i32], above: &[i32], below: &[i32], c: i32)
+    requires parameter { IsParameter c }
+    requires above_count { length above.now ≡ length line.old }
+    requires below_count { length below.now ≡ length line.old }
+    requires line { All Within30 line.old }
+    requires above { All Within30 above.now }
+    requires below { All Within30 below.now }
+    ensures value { (x : ℕ) → x < length line.old →
+        at line.new x ≡ lifted c (at line.old x) (at above.now x) (at below.now x) }
+    ensures within { All Within30 line.new }
+{
+    if c == ALPHA {
+        lift_between(line, above, below, ALPHA);
+    } else if c == BETA {
+        lift_between(line, above, below, BETA);
+    } else if c == GAMMA {
+        lift_between(line, above, below, GAMMA);
+    } else {
+        lift_between(line, above, below, DELTA);
+    }
+}
+
 /// The first `width` cells of row `row` of a plane, `before` having its rows before row `y` and
 /// `after` those after it.
 #[inline(always)]
@@ -57,7 +82,6 @@ fn row_beside<'a>(
 
 /// The lifting step with parameter `c` of the first `width` cells of row `y`, from the rows `above`
 /// and `below`. A row has `stride` cells.
-#[inline(always)]
 fn lift_row(
     cells: &mut [i32],
     stride: usize,
@@ -84,12 +108,11 @@ fn lift_row(
     let (here, after) = rest.split_at_mut(stride);
     let above = row_beside(before, after, stride, width, y, above);
     let below = row_beside(before, after, stride, width, y, below);
-    lift_between(&mut here[..width], above, below, c);
+    lift_line(&mut here[..width], above, below, c);
 }
 
 /// The lifting step with parameter `c` along the first `width` columns of `height` rows, at the odd
 /// rows (`first` is 1) or at the even ones (0).
-#[inline(always)]
 fn lift_rows(cells: &mut [i32], stride: usize, width: usize, height: usize, first: usize, c: i32)
     requires parameter { IsParameter c }
     requires parity { first < 2 }
@@ -107,7 +130,7 @@ fn lift_rows(cells: &mut [i32], stride: usize, width: usize, height: usize, firs
 
 /// The scaling by `c` of the first `width` cells of row `y`.
 #[inline(always)]
-fn scale_row(cells: &mut [i32], stride: usize, width: usize, y: usize, c: i32)
+fn scale_cells(cells: &mut [i32], stride: usize, width: usize, y: usize, c: i32)
     requires factor { IsScaling c }
     requires width { width ≤ stride }
     requires here { y * stride + stride ≤ length cells.old }
@@ -123,9 +146,28 @@ fn scale_row(cells: &mut [i32], stride: usize, width: usize, y: usize, c: i32)
     }
 }
 
+/// The same, with a loop of its own for each factor.
+#[inline(never)]
+fn scale_row(cells: &mut [i32], stride: usize, width: usize, y: usize, c: i32)
+    requires factor { IsScaling c }
+    requires width { width ≤ stride }
+    requires here { y * stride + stride ≤ length cells.old }
+    requires cells { All Within30 cells.old }
+    ensures done { (x : ℕ) → x < width →
+        cell stride cells.new x y ≡ scaled c (cell stride cells.old x y) }
+    ensures kept { (x row : ℕ) → x < stride → (row ≡ y → width ≤ x) →
+        cell stride cells.new x row ≡ cell stride cells.old x row }
+    ensures within { All Within30 cells.new }
+{
+    if c == K {
+        scale_cells(cells, stride, width, y, K);
+    } else {
+        scale_cells(cells, stride, width, y, INVERSE_K);
+    }
+}
+
 /// The scaling by `c` along the first `width` columns of `height` rows, at the odd rows (`first` is
 /// 1) or at the even ones (0).
-#[inline(always)]
 fn scale_rows(cells: &mut [i32], stride: usize, width: usize, height: usize, first: usize, c: i32)
     requires factor { IsScaling c }
     requires parity { first < 2 }
@@ -141,6 +183,7 @@ fn scale_rows(cells: &mut [i32], stride: usize, width: usize, height: usize, fir
 }
 
 /// Exchanges the first `width` cells of the rows `y` and `other`, which may be one row.
+#[inline(never)]
 fn swap_rows(cells: &mut [i32], stride: usize, width: usize, y: usize, other: usize)
     requires width { width ≤ stride }
     requires here { y * stride + stride ≤ length cells.old }

@@ -1,4 +1,4 @@
-use Rattle.std.proofs.Common.{◌≡◌, ℤ, arith}
+use Rattle.std.proofs.Common.{◌≡◌, arith}
 use Rattle.std.proofs.lemmas.Int.{ints, clamps, to_z-of_z}
 use Rattle.lift97_fixed.proofs.Products.{IsAlphaStep, alpha_step, cut}
 use Rattle.lift97_fixed.proofs.steps.by_alpha.Goals as goal

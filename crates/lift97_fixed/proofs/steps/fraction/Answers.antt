@@ -1,4 +1,3 @@
-use Rattle.std.proofs.Common.{◌∙◌, ap}
 use Rattle.std.proofs.lemmas.Int.{to_z-of_z}
 use Rattle.lift97_fixed.proofs.Products.{halved}
 use Rattle.lift97_fixed.proofs.steps.fraction.Goals as goal

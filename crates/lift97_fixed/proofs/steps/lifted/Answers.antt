@@ -1,6 +1,6 @@
 use Rattle.std.proofs.Common.{◌≡◌, ℤ, pos, negsuc, ◌+ℤ◌, FitsSigned, w32, of_z, arith, ◌∙◌, ap, sym}
 use Rattle.std.specs.Int.{int_min, int_max}
-use Rattle.std.proofs.lemmas.Int.{ints, clamps, to_z-of_z}
+use Rattle.std.proofs.lemmas.Int.{ints, clamps}
 use Rattle.cine_nums.specs.Fixed.{mul16, limit30}
 use Rattle.lift97_fixed.specs.Line.{lifted, alpha, gamma}
 use Rattle.lift97_fixed.proofs.Casts.{passed, passed_within, passed_fits, passed_sum}

@@ -1,7 +1,7 @@
-use Rattle.std.proofs.Common.{◌≡◌, ℤ, pos, negsuc, ◌+ℤ◌, ◌-ℤ◌, FitsSigned, w32, arith, ◌∙◌, ap}
+use Rattle.std.proofs.Common.{◌≡◌, ℤ, pos, negsuc, ◌+ℤ◌, ◌-ℤ◌, arith, ◌∙◌, ap}
 use Rattle.std.specs.Int.{int_min, int_max}
-use Rattle.std.proofs.lemmas.Int.{ints, clamps, to_z-of_z}
-use Rattle.lift97_fixed.proofs.Casts.{passed, passed_within, passed_fits}
+use Rattle.std.proofs.lemmas.Int.{ints, clamps}
+use Rattle.lift97_fixed.proofs.Casts.{passed}
 use Rattle.lift97_fixed.proofs.Products.{limited}
 use Rattle.lift97_fixed.proofs.steps.limited_sum.Goals as goal
 

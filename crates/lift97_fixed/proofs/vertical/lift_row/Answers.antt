@@ -20,8 +20,8 @@ pub row_beside-below-requires-clause-there : goal.row_beside-below-requires-clau
 row_beside-below-requires-clause-there c = λ lt.
     omega (arith, rows_after c.args.below c.args.y c.args.stride lt, c.requires.below.0)
 
-pub lift_between-requires-clause-above : goal.lift_between-requires-clause-above
-lift_between-requires-clause-above c =
+pub lift_line-requires-clause-above : goal.lift_line-requires-clause-above
+lift_line-requires-clause-above c =
     let first = c.split_at_mut-before.ensures in
     let second = c.split_at_mut-here.ensures in
     let before : List ℤ = c.split_at_mut-before.result.0.now in
@@ -42,8 +42,8 @@ lift_between-requires-clause-above c =
     (c.requires.cells (c.args.above * c.args.stride + k) (pos 0)
     (omega (arith, inside, c.requires.width, c.requires.above.0))))
 
-pub lift_between-requires-clause-below : goal.lift_between-requires-clause-below
-lift_between-requires-clause-below c =
+pub lift_line-requires-clause-below : goal.lift_line-requires-clause-below
+lift_line-requires-clause-below c =
     let first = c.split_at_mut-before.ensures in
     let second = c.split_at_mut-here.ensures in
     let before : List ℤ = c.split_at_mut-before.result.0.now in
@@ -76,9 +76,9 @@ returns-clause-done c = λ x lt.
     (c.args.y * c.args.stride) c.args.stride
     first.front first.back second.front second.back in
     let here_count : length here ≡ c.args.stride = omega arith in
-    let new : List ℤ = c.lift_between.new.line in
+    let new : List ℤ = c.lift_line.new.line in
     let count : length new ≡ c.args.width =
-    omega (arith, length-take c.args.width here, c.lift_between.auto.line, here_count, c.requires.width) in
+    omega (arith, length-take c.args.width here, c.lift_line.auto.line, here_count, c.requires.width) in
     let line : List ℤ = new ++ drop c.args.width here in
     let line_count : length line ≡ c.args.stride =
     new_count c.args.width c.args.stride new here c.requires.width count here_count in
@@ -100,7 +100,7 @@ returns-clause-done c = λ x lt.
     mid_at c.args.stride c.args.y x before line after
     (omega (arith, lt, line_count, c.requires.width)) (omega arith)
     ∙ new_at c.args.width x new here lt count
-    ∙ c.lift_between.ensures.value x inside
+    ∙ c.lift_line.ensures.value x inside
     ∙ rw (centre, above_at, below_at)
     (ap (λ z. lifted z (cell c.args.stride c.args.cells.now x c.args.y) left right)
     (passed_fits c.args.c c.ranges.c))
@@ -117,9 +117,9 @@ returns-clause-kept c = λ x row column other.
     (c.args.y * c.args.stride) c.args.stride
     first.front first.back second.front second.back in
     let here_count : length here ≡ c.args.stride = omega arith in
-    let new : List ℤ = c.lift_between.new.line in
+    let new : List ℤ = c.lift_line.new.line in
     let count : length new ≡ c.args.width =
-    omega (arith, length-take c.args.width here, c.lift_between.auto.line, here_count, c.requires.width) in
+    omega (arith, length-take c.args.width here, c.lift_line.auto.line, here_count, c.requires.width) in
     let line : List ℤ = new ++ drop c.args.width here in
     let line_count : length line ≡ c.args.stride =
     new_count c.args.width c.args.stride new here c.requires.width count here_count in
@@ -145,7 +145,7 @@ returns-clause-within c =
     let rest : List ℤ = c.split_at_mut-before.result.1.now in
     let here : List ℤ = c.split_at_mut-here.result.0.now in
     let after : List ℤ = c.split_at_mut-here.result.1.now in
-    let new : List ℤ = c.lift_between.new.line in
+    let new : List ℤ = c.lift_line.new.line in
     let start : ℕ = c.args.y * c.args.stride in
     let before_within : All Within30 before =
     subst (All Within30) (sym first.front)
@@ -160,6 +160,6 @@ returns-clause-within c =
     subst (All Within30) (sym second.back) (All-drop Within30 c.args.stride rest rest_within) in
     All-append Within30 before ((new ++ drop c.args.width here) ++ after) before_within
     (All-append Within30 (new ++ drop c.args.width here) after
-    (All-append Within30 new (drop c.args.width here) c.lift_between.ensures.within
+    (All-append Within30 new (drop c.args.width here) c.lift_line.ensures.within
     (All-drop Within30 c.args.width here here_within))
     after_within)

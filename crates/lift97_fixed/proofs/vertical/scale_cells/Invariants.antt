@@ -1,5 +1,5 @@
 use Rattle.lift97_fixed.proofs.Written.{Written, scaled_row}
-use Rattle.lift97_fixed.proofs.vertical.scale_row.Given as goal
+use Rattle.lift97_fixed.proofs.vertical.scale_cells.Given as goal
 
 abbrev pub invariant-loop-x : goal.invariant-loop-x
 invariant-loop-x l = Written l.fn.stride l.fn.y l.x
