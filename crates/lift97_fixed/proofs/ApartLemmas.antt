@@ -1,14 +1,15 @@
 -- A line that is taken apart: the lifting steps and the scaling on its two parts.
-use Rattle.std.proofs.Common.{◌≡◌, ◌≢◌, ℕ, zero, suc, ◌+◌, ◌-◌, ◌*◌, ◌<◌, ◌≤◌, min, ℤ, pos, List}
+use Rattle.std.proofs.Common.{◌≡◌, ◌≢◌, ℕ, zero, suc, ◌+◌, ◌-◌, ◌*◌, ◌<◌, ◌≤◌, min, ℤ, pos, List, ◌++◌}
 use Rattle.std.proofs.Common.{length, All, arith, refl, sym, ◌∙◌, ap, inl, inr}
 use Rattle.std.proofs.Math.ListN.{set}
 use Rattle.std.proofs.lemmas.Bool.{cases_lt, cases_eq}
 use Rattle.std.proofs.lemmas.List.{get_or-set_same, get_or-set_other, length-set}
+use Rattle.std.proofs.lemmas.List.{get_or_append_left, get_or-append-add, length-append}
 use Rattle.std.proofs.lemmas.List.Elements.{All-set, All-from_get_or}
 use Rattle.cine_nums.specs.Fixed.{Within30}
 use Rattle.lift97_fixed.specs.Apart.{IsApart}
 use Rattle.lift97_fixed.specs.Line.{at, left_of, right_of, lifted, scaled, lifted_at, lift, scale}
-use Rattle.lift97_fixed.specs.Line.{split}
+use Rattle.lift97_fixed.specs.Line.{split, delta, scaling, inverse_scaling}
 use Rattle.lift97_fixed.proofs.Casts.{passed, passed_within}
 use Rattle.lift97_fixed.proofs.Lines.{on_parity, off_parity, on_scale, off_scale, at-lift, at-scale}
 use Rattle.lift97_fixed.proofs.Lines.{length-lift, length-scale, inner_left, inner_right}
@@ -186,74 +187,85 @@ highs_within xs lows highs apart w = All-from_get_or Within30 highs (pos 0) (λ 
     let high_count = apart.high_count in
     rw (apart.high k lt) (w (2 * k + 1) (pos 0) (omega (arith, lt, high_count))))
 
--- all low-pass samples and the first n high-pass ones are scaled and joined
-pub record Joined (a b : ℤ) (n : ℕ) (lows highs x : List ℤ) : Type 0 where
-  pub size : length x ≡ length lows + length highs
-  pub within : All Within30 x
-  pub low : (j : ℕ) → j < length lows → at x j ≡ scaled a (at lows j)
-  pub high : (j : ℕ) → j < n → at x (length lows + j) ≡ scaled b (at highs j)
+-- the low-pass sample at place k: the last lifting step, and the scaling
+abbrev pub final_low : List ℤ → List ℤ → ℕ → ℤ
+final_low lows highs k = scaled inverse_scaling (new_low delta lows highs k)
 
-pub joined_lows : (a b : ℤ) (n : ℕ) (lows highs old x : List ℤ) → length lows ≤ n →
-    length old ≡ length lows + length highs →
-    Filled (λ j. scaled a (at lows j)) n old x → Joined a b 0 lows highs x
-joined_lows a b n lows highs old x all count l = record {
-  size = l.size ∙ count;
-  within = l.within;
-  low = λ j lt. l.done j (omega (arith, lt, all));
-  high = λ j lt. absurd (omega (arith, lt));
-}
+pub final_value : (r : ℤ) (lows highs : List ℤ) (k m n : ℕ) → m ≡ k - 1 →
+    n ≡ min k (length highs - 1) → k < length lows → m < length highs → n < length highs →
+    All Within30 lows → All Within30 highs →
+    r ≡ scaled inverse_scaling (lifted delta (passed (at lows k)) (passed (at highs m))
+    (passed (at highs n))) →
+    r ≡ final_low lows highs k
+final_value r lows highs k m n before after in_low in_left in_right wl wh e =
+    e ∙ ap (scaled inverse_scaling)
+    (rw (
+      passed_within (at lows k) (wl k (pos 0) in_low),
+      passed_within (at highs m) (wh m (pos 0) in_left),
+      passed_within (at highs n) (wh n (pos 0) in_right),
+    )
+    (ap (λ i. lifted delta (at lows k) (at highs i) (at highs n)) before
+    ∙ ap (λ i. lifted delta (at lows k) (at highs (k - 1)) (at highs i)) after))
 
-pub joined_more : (a b : ℤ) (k : ℕ) (lows highs x : List ℤ) (v : ℤ) → k < length highs →
-    Joined a b k lows highs x →
-    v ≡ scaled b (at highs k) → Within30 v →
-    Joined a b (k + 1) lows highs (set x (length lows + k) (passed v))
-joined_more a b k lows highs x v inside l value w =
-    let kept : passed v ≡ v = passed_within v w in
-    let place : ℕ = length lows + k in
-    let size = l.size in
-    rw kept (record {
-      size = length-set x place v ∙ size;
-      within = All-set Within30 x place v w l.within;
-      low = λ j lt. let ne : j ≢ place =
-          omega (arith, lt) in get_or-set_other x place j v (pos 0) ne ∙ l.low j lt;
-      high = λ j lt. elim (cases_eq j k) [
-        | inl same ↦ rw same (get_or-set_same x place v (pos 0) (omega (arith, inside, size))
-            ∙ value)
-        | inr ne ↦
-            let other : length lows + j ≢ place = omega (arith, ne) in
-            get_or-set_other x place (length lows + j) v (pos 0) other
-            ∙ l.high j (omega (arith, lt, ne))
-      ];
-    })
+finished_low : (xs lows highs : List ℤ) (j : ℕ) → IsApart xs lows highs → 1 ≤ length highs →
+    j < length lows →
+    final_low lows highs j ≡ at (scale inverse_scaling 0 (scale scaling 1 (lift delta 0 xs))) (2 * j)
+finished_low xs lows highs j apart some lt =
+    let ls : List ℤ = lift delta 0 xs in
+    let ys : List ℤ = scale scaling 1 ls in
+    let l_count : length ls ≡ length xs = length-lift delta 0 xs in
+    let y_count : length ys ≡ length ls = length-scale scaling 1 ls in
+    let low_count = apart.low_count in
+    let inside : 2 * j < length xs = omega (arith, lt, low_count) in
+    ap (scaled inverse_scaling) (low_is delta xs lows highs j apart some lt
+    ∙ sym (at-lift delta 0 xs (2 * j) inside)
+    ∙ sym (off_scale scaling 1 ls (2 * j) (λ e. omega (arith, e)))
+    ∙ sym (at-scale scaling 1 ls (2 * j) (omega (arith, inside, l_count))))
+    ∙ sym (on_scale inverse_scaling 0 ys (2 * j) (omega arith))
+    ∙ sym (at-scale inverse_scaling 0 ys (2 * j) (omega (arith, inside, l_count, y_count)))
 
-pub joined_all : (a b : ℤ) (n : ℕ) (xs lows highs x : List ℤ) → length highs ≤ n →
-    Joined a b n lows highs x → IsApart xs lows highs →
-    x ≡ split (scale a 0 (scale b 1 xs))
-joined_all a b n xs lows highs x all l apart =
-    let ys : List ℤ = scale b 1 xs in
-    let zs : List ℤ = scale a 0 ys in
-    let y_count : length ys ≡ length xs = length-scale b 1 xs in
-    let z_count : length zs ≡ length ys = length-scale a 0 ys in
+finished_high : (xs lows highs : List ℤ) (j : ℕ) → IsApart xs lows highs → j < length highs →
+    scaled scaling (at highs j)
+    ≡ at (scale inverse_scaling 0 (scale scaling 1 (lift delta 0 xs))) (2 * j + 1)
+finished_high xs lows highs j apart lt =
+    let ls : List ℤ = lift delta 0 xs in
+    let ys : List ℤ = scale scaling 1 ls in
+    let l_count : length ls ≡ length xs = length-lift delta 0 xs in
+    let y_count : length ys ≡ length ls = length-scale scaling 1 ls in
+    let high_count = apart.high_count in
+    let inside : 2 * j + 1 < length xs = omega (arith, lt, high_count) in
+    ap (scaled scaling) (apart.high j lt
+    ∙ sym (off_parity delta 0 xs (2 * j + 1) (λ e. omega (arith, e)))
+    ∙ sym (at-lift delta 0 xs (2 * j + 1) inside))
+    ∙ sym (on_scale scaling 1 ls (2 * j + 1) (omega arith))
+    ∙ sym (at-scale scaling 1 ls (2 * j + 1) (omega (arith, inside, l_count)))
+    ∙ sym (off_scale inverse_scaling 0 ys (2 * j + 1) (λ e. omega (arith, e)))
+    ∙ sym (at-scale inverse_scaling 0 ys (2 * j + 1) (omega (arith, inside, l_count, y_count)))
+
+pub finished_all : (xs lows highs first second : List ℤ) → 1 ≤ length highs →
+    length first ≡ length lows → length second ≡ length highs →
+    ((j : ℕ) → j < length lows → at first j ≡ final_low lows highs j) →
+    ((j : ℕ) → j < length highs → at second j ≡ scaled scaling (at highs j)) →
+    IsApart xs lows highs →
+    first ++ second ≡ split (scale inverse_scaling 0 (scale scaling 1 (lift delta 0 xs)))
+finished_all xs lows highs first second some size1 size2 low high apart =
+    let zs : List ℤ = scale inverse_scaling 0 (scale scaling 1 (lift delta 0 xs)) in
+    let count : length zs ≡ length xs = length-scale inverse_scaling 0 (scale scaling 1 (lift delta 0 xs))
+    ∙ (length-scale scaling 1 (lift delta 0 xs) ∙ length-lift delta 0 xs) in
     let low_count = apart.low_count in
     let high_count = apart.high_count in
-    let size = l.size in
-    gathered_all (length lows) (length highs) zs x (omega (arith, y_count, z_count, low_count))
-    (omega (arith, y_count, z_count, high_count))
+    gathered_all (length lows) (length highs) zs (first ++ second)
+    (omega (arith, count, low_count)) (omega (arith, count, high_count))
     (record {
-      size = omega (arith, size, y_count, z_count, low_count, high_count);
+      size = length-append first second ∙ omega (arith, size1, size2, count, low_count, high_count);
       low = λ j lt.
-          l.low j lt
-          ∙ ap (scaled a) (apart.low j lt ∙ sym (off_scale b 1 xs (2 * j) (λ e. omega (arith, e)))
-          ∙ sym (at-scale b 1 xs (2 * j) (omega (arith, lt, low_count))))
-          ∙ sym (on_scale a 0 ys (2 * j) (omega arith))
-          ∙ sym (at-scale a 0 ys (2 * j) (omega (arith, lt, low_count, y_count)));
+          get_or_append_left first second (pos 0) j (omega (arith, lt, size1))
+          ∙ (low j lt ∙ finished_low xs lows highs j apart some lt);
       high = λ j lt.
-          l.high j (omega (arith, lt, all))
-          ∙ ap (scaled b) (apart.high j lt)
-          ∙ sym (on_scale b 1 xs (2 * j + 1) (omega arith))
-          ∙ sym (at-scale b 1 xs (2 * j + 1) (omega (arith, lt, high_count)))
-          ∙ sym (off_scale a 0 ys (2 * j + 1) (λ e. omega (arith, e)))
-          ∙ sym (at-scale a 0 ys (2 * j + 1) (omega (arith, lt, high_count, y_count)));
+          let place : length lows + j ≡ length first + j = omega (arith, size1) in
+          ap (at (first ++ second)) place
+          ∙ (get_or-append-add first second j (pos 0)
+          ∙ (high j lt ∙ finished_high xs lows highs j apart lt));
     })
 
 -- what the loops compute at a place, n being where they take the neighbour from

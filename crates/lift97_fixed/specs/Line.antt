@@ -1,7 +1,8 @@
 -- The irreversible 9-7 wavelet transform of one line in fixed point: ISO/IEC 15444-1, Annex F.4
 -- (1D_SD, 1D_EXTD, 1D_FILTD 9-7 and the split of 2D_DEINTERLEAVE).
 use Rattle.std.specs.Prelude.{ℕ, suc, zero, ◌+◌, ◌-◌, ◌*◌, ◌/◌, ◌%◌, ℤ, pos, negsuc, ◌+ℤ◌, List, []}
-use Rattle.std.specs.Prelude.{◌≡◌, ◌⊎◌, ◌∷◌, ◌++◌, map, length, slice_index_or, nat_lt, nat_eq, if◌then◌else◌}
+use Rattle.std.specs.Prelude.{◌≡◌, ◌⊎◌, ◌∷◌, ◌++◌, map, length, slice_index_or, nat_lt, nat_eq}
+use Rattle.std.specs.Prelude.{if◌then◌else◌}
 use Rattle.std.specs.List.{range_with_len}
 use Rattle.cine_nums.specs.Fixed.{mul16, limit30}
 

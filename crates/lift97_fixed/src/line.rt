@@ -1,8 +1,9 @@
 // The transform of one line of samples.
-ghost use Rattle.std.specs.Prelude.{◌≡◌, ℕ, ◌+◌, ◌-◌, ◌/◌, ◌<◌, ◌≤◌, ℤ, List, length, All};
+ghost use Rattle.std.specs.Prelude.{◌≡◌, ℕ, ◌+◌, ◌-◌, ◌/◌, ◌<◌, ◌≤◌, min, ℤ, List, length, All};
 ghost use Rattle.cine_nums.specs.Fixed.{Within30};
 ghost use Rattle.lift97_fixed.specs.Apart.{IsApart};
-ghost use Rattle.lift97_fixed.specs.Line.{left_of, right_of, lift, scale, split, IsParameter};
+ghost use Rattle.lift97_fixed.specs.Line.{at, left_of, right_of, lifted, scaled, lift, scale};
+ghost use Rattle.lift97_fixed.specs.Line.{delta, split, IsParameter};
 ghost use Rattle.lift97_fixed.specs.Line.{scaling, inverse_scaling, line_transform};
 
 use crate::steps::{ALPHA, BETA, DELTA, GAMMA, INVERSE_K, K, lifted, scaled};
@@ -86,24 +87,77 @@ fn lift_lows(lows: &mut [i32], highs: &[i32], c: i32)
     }
 }
 
-/// The scaling of a line that is taken apart: the low-pass samples first, then the high-pass ones.
+/// A low-pass sample: the last lifting step, and the scaling.
 #[inline(always)]
-fn scale_and_join(line: &mut [i32], lows: &[i32], highs: &[i32])
+fn low_sample(cell: i32, left: i32, right: i32) -> i32
+    requires cell { Within30 cell }
+    requires left { Within30 left }
+    requires right { Within30 right }
+    ensures value { result ≡ scaled inverse_scaling (lifted delta cell left right) }
+    ensures within { Within30 result }
+{
+    scaled(INVERSE_K, lifted(DELTA, cell, left, right))
+}
+
+/// The low-pass samples of a line that is taken apart: the last lifting step at its even places,
+/// and their scaling.
+#[inline(always)]
+fn finish_lows(line: &mut [i32], lows: &[i32], highs: &[i32])
+    requires some { 1 ≤ length highs.now }
+    requires at_least { length highs.now ≤ length lows.now }
+    requires at_most { length lows.now ≤ length highs.now + 1 }
+    requires same { length line.old ≡ length lows.now }
+    requires cells { All Within30 line.old }
+    requires lows { All Within30 lows.now }
+    requires highs { All Within30 highs.now }
+    ensures value { (j : ℕ) → j < length lows.now → at line.new j
+        ≡ scaled inverse_scaling (lifted delta (at lows.now j) (at highs.now (j - 1))
+        (at highs.now (min j (length highs.now - 1)))) }
+    ensures within { All Within30 line.new }
+{
+    let inner = highs.len();
+    line[0] = low_sample(lows[0], highs[0], highs[0]);
+    for k in 1..inner {
+        line[k] = low_sample(lows[k], highs[k - 1], highs[k]);
+    }
+    if inner < lows.len() {
+        line[inner] = low_sample(lows[inner], highs[inner - 1], highs[inner - 1]);
+    }
+}
+
+/// The high-pass samples, scaled.
+#[inline(always)]
+fn finish_highs(line: &mut [i32], highs: &[i32])
+    requires same { length line.old ≡ length highs.now }
+    requires cells { All Within30 line.old }
+    requires highs { All Within30 highs.now }
+    ensures value { (j : ℕ) → j < length highs.now →
+        at line.new j ≡ scaled scaling (at highs.now j) }
+    ensures within { All Within30 line.new }
+{
+    for k in 0..highs.len() {
+        line[k] = scaled(K, highs[k]);
+    }
+}
+
+/// The last lifting step and the scaling of a line that is taken apart: the low-pass samples first,
+/// then the high-pass ones.
+#[inline(always)]
+fn finish(line: &mut [i32], lows: &[i32], highs: &[i32])
+    requires some { 1 ≤ length highs.now }
+    requires at_least { length highs.now ≤ length lows.now }
+    requires at_most { length lows.now ≤ length highs.now + 1 }
     requires same { length line.old ≡ length lows.now + length highs.now }
     requires cells { All Within30 line.old }
     requires lows { All Within30 lows.now }
     requires highs { All Within30 highs.now }
     ensures value { (xs : List ℤ) → IsApart xs lows.now highs.now →
-        line.new ≡ split (scale inverse_scaling 0 (scale scaling 1 xs)) }
+        line.new ≡ split (scale inverse_scaling 0 (scale scaling 1 (lift delta 0 xs))) }
     ensures within { All Within30 line.new }
 {
-    let low = lows.len();
-    for k in 0..low {
-        line[k] = scaled(INVERSE_K, lows[k]);
-    }
-    for k in 0..highs.len() {
-        line[low + k] = scaled(K, highs[k]);
-    }
+    let (first, second) = line.split_at_mut(lows.len());
+    finish_lows(first, lows, highs);
+    finish_highs(second, highs);
 }
 
 /// The transform of a line of 1 to 4,096 samples in -2^30 .. 2^30 - 1 (ISO/IEC 15444-1, Annex F.4):
@@ -126,8 +180,7 @@ pub fn forward_line(line: &mut [i32], scratch: &mut [i32])
     lift_highs(lows, highs, ALPHA);
     lift_lows(lows, highs, BETA);
     lift_highs(lows, highs, GAMMA);
-    lift_lows(lows, highs, DELTA);
-    scale_and_join(line, lows, highs);
+    finish(line, lows, highs);
 }
 
 #[cfg(test)]

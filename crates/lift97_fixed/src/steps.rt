@@ -21,7 +21,7 @@ const LOWEST: i32 = -(1 << 30);
 
 const HIGHEST: i32 = (1 << 30) - 1;
 
-/// The sum times [`ALPHA`] over 65,536 is `2^31 - 1` for the negative of this sum.
+/// The largest sum in size whose product with [`ALPHA`] over 65,536 is less than 2^31 in size.
 const LARGEST_SUM: i32 = 1353909016;
 
 /// The product of `x` and `d / 65536`, rounded to the nearest whole number, and upwards where two
@@ -35,9 +35,8 @@ fn fraction(d: i32, x: i32) -> i32
     (((d * 65536) as i64 * x as i64 + (1 << 31)) >> 32) as i32
 }
 
-/// The product of a sum and [`ALPHA`] over 65,536, rounded, where it is less than 2^31 in size. A
-/// larger one becomes one of this size: with it too, the sum of a sample and the product is out of
-/// range on the same side.
+/// The product of a sum and [`ALPHA`] over 65,536, rounded, where it is less than 2^31 in size, and
+/// else 2^31 - 1 with its sign: both products take the sum with a sample to the same limit.
 #[inline(always)]
 fn by_alpha(sum: i32) -> i32
     ensures { (cell : ℤ) → Within30 cell →

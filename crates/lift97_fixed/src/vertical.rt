@@ -28,7 +28,8 @@ fn lift_between(line: &mut [i32], above: &[i32], below: &[i32], c: i32)
 }
 
 /// The same, with a loop of its own for each parameter.
-// A constant makes shorter products; rows that are known to be of one slice make no vectors.
+// It isn't inlined, since the compiler makes vectors of a loop with a constant parameter over
+// slices that it doesn't know to be parts of one.
 #[inline(never)]
 fn lift_line(line: &mut [i32], above: &[i32], below: &[i32], c: i32)
     requires parameter { IsParameter c }

@@ -20,8 +20,7 @@ lift_lows-requires-clause-lows c =
 
 pub returns-clause-value : goal.returns-clause-value
 returns-clause-value c =
-    c.scale_and_join.ensures.value _
-    (c.lift_lows-2.ensures.value _
+    c.finish.ensures.value _
     (c.lift_highs-2.ensures.value _
-    (c.lift_lows.ensures.value _ (c.lift_highs.ensures.value _ c.take_apart.ensures))))
+    (c.lift_lows.ensures.value _ (c.lift_highs.ensures.value _ c.take_apart.ensures)))
     ∙ long_line c.args.line.now (omega arith)

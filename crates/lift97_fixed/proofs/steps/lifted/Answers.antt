@@ -7,8 +7,13 @@ use Rattle.lift97_fixed.proofs.Casts.{passed, passed_within, passed_fits, passed
 use Rattle.lift97_fixed.proofs.Products.{IsSum, is_small, small_range, in_range, limit30_is}
 use Rattle.lift97_fixed.proofs.steps.lifted.Goals as goal
 
-fraction_is : (c : goal.After-fraction) → c.fraction.result ≡ mul16 c.args.c (c.args.left +ℤ c.args.right)
-fraction_is c = rw (passed_sum c.args.left c.args.right c.requires.left c.requires.right, passed_fits c.args.c c.ranges.c) at c.fraction.ensures.value
+fraction_is : (c : goal.After-fraction) →
+    c.fraction.result ≡ mul16 c.args.c (c.args.left +ℤ c.args.right)
+fraction_is c =
+    rw (
+      passed_sum c.args.left c.args.right c.requires.left c.requires.right,
+      passed_fits c.args.c c.ranges.c,
+    ) at c.fraction.ensures.value
 
 sum : (c : goal.After-fraction) → IsSum c.args.cell c.fraction.result
 sum c =
