@@ -1,0 +1,13 @@
+use Rattle.std.proofs.Common.{◌≡◌, ◌∙◌, ap, rules}
+use Rattle.std.proofs.lemmas.Result.{IfOk-weaker}
+use Rattle.clap.specs.Simple.{app_of, with_rule}
+use Rattle.clap.specs.Walk.{Rule, rule_of}
+use Rattle.command_words.specs.Encode.{required_option}
+use Rattle.command_words.proofs.taken.with_required_option.Goals as goal
+
+pub returns : goal.returns
+returns c =
+    let rule_is : rule_of c.required-argument.result ≡ required_option c.args.name.now =
+    search rules in
+    IfOk-weaker c.arg.result _ _ (λ more adds. adds.shape (search rules)
+    ∙ ap (λ (r : Rule). with_rule (app_of c.args.command) r) rule_is) c.arg.ensures

@@ -1,0 +1,22 @@
+//! What the words of the command line order. Each mode is one simple command of `clap`. Which words
+//! are a command of the mode, and what they name, is a definition in `specs/`: the command takes
+//! them (`refusals` of Taken.antt), and their values are folders, a profile and byte limits
+//! (Encode.antt).
+//!
+//! Options of byte limits lower those of the profile and never raise them (DCI Digital Cinema
+//! System Specification, section 4). A number is one or more decimal digits.
+//!
+//! ```text
+//! encode frames out --profile 2k --frame-bytes 1000000
+//! ```
+#![tactic(auto)]
+
+mod encode;
+mod limits;
+mod request;
+mod taken;
+#[cfg(test)]
+mod tests;
+
+pub use encode::{EncodeWords, encode_words};
+pub use request::{Request, request_of};
