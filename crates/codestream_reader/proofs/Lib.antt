@@ -17,5 +17,17 @@ pub mod Going
 pub mod Filling
 pub mod Heads
 pub mod PartCases
+-- Tile-parts one after the other.
+pub mod PartsStanding
+pub mod PartsSaying
+pub mod PartsGoing
+pub mod FewPlanes
+-- The words of a codestream, and two meanings of the same bytes.
+pub mod Streams
+pub mod OneReading
+-- A whole codestream.
+pub mod Ending
+pub mod AfterMain
+pub mod Found
 -- The steps of tests.
 pub mod BuiltIn

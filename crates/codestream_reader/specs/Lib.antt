@@ -4,3 +4,6 @@ pub mod Spans
 -- The first fault of the packets of a tile-part, and of tile-parts.
 pub mod PacketFaults
 pub mod PartFaults
+-- A whole codestream, and its first fault.
+pub mod Whole
+pub mod Faults

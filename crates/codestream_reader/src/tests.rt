@@ -21,7 +21,7 @@ use tile_parts::PartRefusal;
 
 /// The codestream of a pixel with the index 64, of which 18 passes are kept.
 #[rattlefmt::skip]
-const PIXEL: [u8; 195] = [
+pub(crate) const PIXEL: [u8; 195] = [
     0xFF, 0x4F,
     0xFF, 0x51, 0x00, 0x2F, 0x00, 0x03, 0x00, 0x00, 0x00, 0x01, 0x00, 0x00, 0x00, 0x01,
     0x00, 0x00, 0x00, 0x00, 0x00, 0x00, 0x00, 0x00, 0x00, 0x00, 0x00, 0x01, 0x00, 0x00, 0x00, 0x01,
@@ -46,7 +46,7 @@ const PIXEL: [u8; 195] = [
 
 /// Its first tile-part with a segment PLT.
 #[rattlefmt::skip]
-const WITH_PLT: &[u8] = &[
+pub(crate) const WITH_PLT: &[u8] = &[
     0xFF, 0x90, 0x00, 0x0A, 0x00, 0x00, 0x00, 0x00, 0x00, 0x23, 0x00, 0x03,
     0xFF, 0x58, 0x00, 0x09, 0x00, 0x05, 0x01, 0x01, 0x01, 0x01, 0x01,
     0xFF, 0x93, 0xC0, 0x07, 0xD8, 0x02, 0x04, 0x00, 0x00, 0x00, 0x00, 0x00,
@@ -151,7 +151,7 @@ fn try_packets(
 }
 
 /// The span of an included block.
-const fn span(zero_planes: u8, passes: u8, len: u32, at: u32) -> BlockSpan {
+pub(crate) const fn span(zero_planes: u8, passes: u8, len: u32, at: u32) -> BlockSpan {
     BlockSpan {
         entry: Entry {
             included: true,
@@ -164,7 +164,7 @@ const fn span(zero_planes: u8, passes: u8, len: u32, at: u32) -> BlockSpan {
 }
 
 /// That of a block that isn't.
-const fn left_out(at: u32) -> BlockSpan {
+pub(crate) const fn left_out(at: u32) -> BlockSpan {
     BlockSpan {
         entry: Entry {
             included: false,
