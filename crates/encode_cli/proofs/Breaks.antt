@@ -6,12 +6,13 @@ use Rattle.std.specs.Option.{ForSome}
 use Rattle.cine_ports.specs.Source.{File}
 use Rattle.cine_ports.specs.Outputs.{Kept}
 use Rattle.cine_ports.specs.WholePieces.{SaidProperPrefix}
-use Rattle.pnm_frames.specs.declared.fault.FrameFault.{FrameFault}
 use Rattle.encode_cli.specs.Output.{kept_and, OutputBrokeOff}
-use Rattle.encode_cli.specs.Visit.{Visit, one_or_none, outputs_of, Before, Writing, Saying, kept_at}
+use Rattle.encode_cli.specs.Visit.{Visit, one_or_none, outputs_of, Point, Before, Writing, Saying}
+use Rattle.encode_cli.specs.Visit.{kept_at}
 use Rattle.encode_cli.specs.Visit.{said_at}
-use Rattle.encode_cli.specs.Progress.{VisitBrokeOff}
+use Rattle.encode_cli.specs.Progress.{IsOneOf, VisitBrokeOff}
 use Rattle.encode_cli.specs.Right.{refused}
+use Rattle.encode_cli.specs.declared.refusal.Refusal.{Refusal}
 
 -- outputs without an unfinished file are their finished ones
 pub rest_same : (k : Option Kept) → ForSome k (λ kept. kept.unfinished ≡ None) →
@@ -92,12 +93,12 @@ none_twice (Some kept) = ap (λ (files : List File). Some
     (record { finished = files; unfinished = None })) (sym (append-nil (kept.finished ++ [])))
 
 -- broken off while the line of a refused frame was reported
-pub refusal_broken : (name : List ℕ) (fault : FrameFault) (line : List ℕ) (k : Option Kept)
-    (s0 s1 : Option (List ℕ)) → line ≡ (refused name fault).line → SaidProperPrefix line s0 s1 →
-    VisitBrokeOff (λ visit. visit ≡ refused name fault) (option_map (kept_and []) k)
+pub refusal_broken : (name : List ℕ) (refusal : Refusal) (line : List ℕ) (k : Option Kept)
+    (s0 s1 : Option (List ℕ)) → line ≡ (refused name refusal).line → SaidProperPrefix line s0 s1 →
+    VisitBrokeOff (λ visit. visit ≡ refused name refusal) (option_map (kept_and []) k)
     (option_map (kept_and []) k) s0 s1
-refusal_broken name fault line k s0 s1 same some =
-    line_broken (λ visit. visit ≡ refused name fault) (refused name fault) line
+refusal_broken name refusal line k s0 s1 same some =
+    line_broken (λ visit. visit ≡ refused name refusal) (refused name refusal) line
     (option_map (kept_and []) k) (option_map (kept_and []) k) s0 s1 refl same
     (none_twice k) some
 
@@ -110,3 +111,22 @@ none_added (Some kept) h =
     (append-nil kept.finished)
     ∙ ap (λ (u : Option File). Some (record { finished = kept.finished; unfinished = u }))
     (sym (h kept refl))
+
+-- a point of such a visit is one of another kind, where each such visit is
+point_for : (P Q : Visit → Type 0) (point : Point) → ((visit : Visit) → P visit → Q visit) →
+    IsOneOf P point → IsOneOf Q point
+point_for P Q Before more of = tt
+point_for P Q (Writing visit file n) more of = more visit of
+point_for P Q (Saying visit n) more of = more visit of
+
+-- and so is where it broke off
+pub broken_for : (P Q : Visit → Type 0) (k0 k1 : Option Kept) (s0 s1 : Option (List ℕ)) →
+    ((visit : Visit) → P visit → Q visit) → VisitBrokeOff P k0 k1 s0 s1 →
+    VisitBrokeOff Q k0 k1 s0 s1
+broken_for P Q k0 k1 s0 s1 more broken = record {
+  point = broken.point;
+  is_point = broken.is_point;
+  of_visit = point_for P Q broken.point more broken.of_visit;
+  kept = broken.kept;
+  said = broken.said;
+}

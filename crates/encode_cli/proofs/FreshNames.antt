@@ -1,7 +1,7 @@
 -- Why no finished output has the name of the next one: listed names are distinct.
 use Rattle.std.proofs.Common.{Bool, ◌≡◌, ℕ, zero, suc, ◌<◌, List, [], ◌∷◌, ◌++◌, Option, Some, None}
 use Rattle.std.proofs.Common.{IfSome, Result, Ok, Err, length, map, take, slice_get, get_or}
-use Rattle.std.proofs.Common.{Contains, sym, ◌∙◌, ap, refl, subst, arith}
+use Rattle.std.proofs.Common.{Contains, inl, inr, sym, ◌∙◌, ap, refl, subst, arith}
 use Rattle.std.specs.Option.{ForSome}
 use Rattle.std.specs.List.{flat_map}
 use Rattle.std.specs.Ordering.{nat_cmp}
@@ -31,8 +31,10 @@ IsNamed suffix name output = IfSome output (λ file. file.name ≡ name ++ suffi
 
 right_named : (order : EncodeOrder) (suffix name : List ℕ) (found : Result Picture FrameFault)
     (visit : Visit) → RightFor order suffix name found visit → IsNamed suffix name visit.output
-right_named order suffix name (Ok p) visit right =
+right_named order suffix name (Ok p) visit (inl right) =
     subst (λ (v : Visit). IsNamed suffix name v.output) (sym right.is) refl
+right_named order suffix name (Ok p) visit (inr right) =
+    subst (λ (v : Visit). IsNamed suffix name v.output) (sym right.is) tt
 right_named order suffix name (Err fault) visit right =
     subst (λ (v : Visit). IsNamed suffix name v.output) (sym right) tt
 

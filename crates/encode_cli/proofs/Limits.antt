@@ -1,6 +1,6 @@
 -- No output of a run is longer than a codestream may be.
 use Rattle.std.proofs.Common.{◌≡◌, Bool, ℕ, ◌≤◌, List, [], ◌∷◌, ◌++◌, Option, Some, None, Result}
-use Rattle.std.proofs.Common.{Ok, Err, IfSome, length, take, refl, subst, sym, arith}
+use Rattle.std.proofs.Common.{Ok, Err, IfSome, inl, inr, length, take, refl, subst, sym, arith}
 use Rattle.std.specs.Option.{ForSome}
 use Rattle.std.specs.List.{flat_map, AllByRecursion}
 use Rattle.std.proofs.lemmas.List.{length-take}
@@ -9,8 +9,8 @@ use Rattle.cine_ports.specs.Outputs.{Kept, kept_nothing}
 use Rattle.cine_ports.specs.Source.{File, Source}
 use Rattle.pnm_frames.specs.declared.fault.FrameFault.{FrameFault}
 use Rattle.pnm_frames.specs.Picture.{Picture}
-use Rattle.budget_duals.specs.Held.{limits_of}
-use Rattle.budget_duals.specs.declared.limits.Limits.{Limits}
+use Rattle.cine_nums.specs.declared.budget.Budget.TheVariants.{Frame}
+use Rattle.frame_encoder.specs.Orders.{AreLimitsFor}
 use Rattle.frame_encoder.specs.declared.order.EncodeOrder.{EncodeOrder}
 use Rattle.frame_encoder.proofs.Whole.{bytes_short}
 use Rattle.encode_cli.specs.Arguments.{IsEncode}
@@ -20,19 +20,22 @@ use Rattle.encode_cli.specs.Right.{RightFor, RightByName}
 use Rattle.encode_cli.specs.Progress.{AreRight, IsPointAt, FramesVisited, kept_after}
 use Rattle.encode_cli.specs.Run.{IsShort, AreShort, RunBrokeOff}
 use Rattle.encode_cli.proofs.Progress.{from_before}
+use Rattle.encode_cli.proofs.Words.{allowed}
 
--- the limits of the order are those of its profile
+-- the limits of the order are those of its profile, or lower
 abbrev HasLimits : EncodeOrder → Type 0
-HasLimits order = order.limits ≡ limits_of order.profile
+HasLimits order = AreLimitsFor order.profile order.limits
 
 right_short : (order : EncodeOrder) (suffix name : List ℕ) (found : Result Picture FrameFault)
     (visit : Visit) → HasLimits order → RightFor order suffix name found visit →
     IfSome visit.output IsShort
-right_short order suffix name (Ok p) visit own right =
+right_short order suffix name (Ok p) visit own (inl right) =
+    let low : order.limits.frame ≤ frame_limit = own.most Frame in
     let few : length right.encoding.bytes ≤ frame_limit =
-    subst (λ (l : Limits). length right.encoding.bytes ≤ l.frame) own
-    (bytes_short order p right.encoding right.encodes) in
+    omega (arith, bytes_short order p right.encoding right.encodes, low) in
     subst (λ (v : Visit). IfSome v.output IsShort) (sym right.is) few
+right_short order suffix name (Ok p) visit own (inr right) =
+    subst (λ (v : Visit). IfSome v.output IsShort) (sym right.is) tt
 right_short order suffix name (Err fault) visit own right =
     subst (λ (v : Visit). IfSome v.output IsShort) (sym right) tt
 
@@ -89,7 +92,7 @@ visited_short order suffix R source n k0 k1 s0 s1 some words is done =
     held_short k1 (kept_after done.visits) (from_before k0 k1 (kept_after done.visits) done.kept)
     (record {
       finished = visits_short order suffix
-          (take n source.names) done.visits is.limits done.right.named;
+          (take n source.names) done.visits (allowed words order is) done.right.named;
       unfinished = tt;
     })
 
@@ -101,8 +104,9 @@ pub broken_short : (order : EncodeOrder) (suffix : List ℕ) (R : File → Visit
 broken_short order suffix R source n k s words is broken =
     held_short k (kept_at broken.point (flat_map outputs_of broken.visits)) broken.kept
     (point_short order suffix source.names n broken.point
-    (flat_map outputs_of broken.visits) is.limits broken.is_point broken.place.named
-    (visits_short order suffix (take n source.names) broken.visits is.limits broken.right.named))
+    (flat_map outputs_of broken.visits) (allowed words order is) broken.is_point broken.place.named
+    (visits_short order suffix (take n source.names) broken.visits (allowed words order is)
+    broken.right.named))
 
 -- and where nothing was written
 pub none_short : (k : Option Kept) → ForSome k (λ kept. kept ≡ kept_nothing) → IfSome k AreShort

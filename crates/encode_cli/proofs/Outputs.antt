@@ -10,6 +10,11 @@ pub on_err : {T E : Type 0} {P : Type 0} (r : Result T E) → P → OnErr r P
 on_err (Ok x) p = tt
 on_err (Err e) p = p
 
+-- and so does what follows from what holds of an error
+pub err_more : {T E : Type 0} {P Q : Type 0} (r : Result T E) → (P → Q) → OnErr r P → OnErr r Q
+err_more (Ok x) more p = tt
+err_more (Err e) more p = more p
+
 -- all the bytes follow those of the file that was begun, of which there are none
 begun_and_more : (name bytes : List ℕ) (k : Option Kept) →
     option_map (with_more bytes) (option_map (with_begun name) k)

@@ -1,20 +1,10 @@
--- The words after the program's name.
-use Rattle.std.specs.Prelude.{ℕ, ◌≡◌, List, [], ◌∷◌, Some, map, option_map, String, string_bytes}
-use Rattle.std.specs.Prelude.{codes}
-use Rattle.budget_duals.specs.Held.{limits_of}
+-- What the words after the program's name order.
+use Rattle.std.specs.Prelude.{ℕ, ◌≡◌, List, Some, option_map, string_bytes, codes}
+use Rattle.budget_duals.specs.declared.limits.Limits.{Limits}
 use Rattle.cine_nums.specs.declared.profile.Profile.{Profile}
+use Rattle.command_words.specs.Encode as words_of
 use Rattle.frame_encoder.specs.declared.order.EncodeOrder.{EncodeOrder}
-use Rattle.cert_text.specs.Words.{profile_word}
 use Rattle.encode_cli.specs.declared.arguments.FolderWords.{FolderWords}
-
--- the bytes of each word
-abbrev pub texts : {A : Type 0} → List (String A) → List (List ℕ)
-texts words = map string_bytes words
-
--- the one command: encode SOURCE TARGET --profile PROFILE
-abbrev pub encode_words : List ℕ → List ℕ → Profile → List (List ℕ)
-encode_words source target profile =
-    codes "encode" ∷ source ∷ target ∷ codes "--profile" ∷ profile_word profile ∷ []
 
 -- the suffixes of frames and of codestreams
 abbrev pub frame_suffix : List ℕ
@@ -23,24 +13,23 @@ frame_suffix = codes ".ppm"
 abbrev pub codestream_suffix : List ℕ
 codestream_suffix = codes ".j2c"
 
--- The words are that command, of some source, target and profile.
+-- The words are a command: one of the mode `encode`.
 abbrev pub AreCommand : List (List ℕ) → Type 0
-AreCommand words = (source : List ℕ) × (target : List ℕ) × (profile : Profile)
-    × (words ≡ encode_words source target profile)
+AreCommand words = words_of.AreEncode words
 
--- They are, and the order is for their profile, with its limits.
+-- They are, and the order is for their profile, with their limits.
 pub record IsEncode (words : List (List ℕ)) (order : EncodeOrder) : Type 0 where
   pub source : List ℕ
   pub target : List ℕ
-  pub command : words ≡ encode_words source target order.profile
-  pub limits : order.limits ≡ limits_of order.profile
+  pub command : words_of.IsEncode words source target order.profile order.limits
 
 -- the folders of that command: its source and target, and the suffix of frames
 pub record AreFoldersOf (words : List (List ℕ)) (folders : FolderWords) : Type 0 where
   pub source : List ℕ
   pub target : List ℕ
   pub profile : Profile
-  pub command : words ≡ encode_words source target profile
+  pub limits : Limits
+  pub command : words_of.IsEncode words source target profile limits
   pub has_source : option_map string_bytes folders.source ≡ Some source
   pub has_target : option_map string_bytes folders.target ≡ Some target
   pub has_suffix : string_bytes folders.suffix ≡ frame_suffix

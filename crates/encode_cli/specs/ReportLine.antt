@@ -1,15 +1,7 @@
--- What the lines of the report say of a frame. Their form is that of cert_text (docs/FORMATS.md).
-use Rattle.std.specs.Prelude.{ℕ, ◌≡◌, List, [], ◌∷◌, ◌++◌, codes, sum, string_bytes}
-use Rattle.std.specs.List.{flat_map}
-use Rattle.cert_text.specs.Lines.{refused_start, number_field}
+-- What the line of a frame that was written says. Its form is that of cert_text (docs/FORMATS.md).
+use Rattle.std.specs.Prelude.{ℕ, ◌≡◌, List, sum, string_bytes}
 use Rattle.cert_text.specs.declared.cert_line.CertLine.{CertLine}
-use Rattle.pnm_frames.specs.Fault.{number_of}
 use Rattle.pnm_frames.specs.Picture.{Picture}
-use Rattle.pnm_frames.specs.declared.fault.FrameFault.{FrameFault}
-use Rattle.pnm_frames.specs.declared.fault.FrameFault.TheVariants.{NotPpm, BadHeader, HeaderTooLong}
-use Rattle.pnm_frames.specs.declared.fault.FrameFault.TheVariants.{WrongMaxval, WidthOutOfRange}
-use Rattle.pnm_frames.specs.declared.fault.FrameFault.TheVariants.{HeightOutOfRange, SampleTooLarge}
-use Rattle.pnm_frames.specs.declared.fault.FrameFault.TheVariants.{Truncated, TrailingBytes}
 use Rattle.frame_encoder.specs.Encoded.{Encoding}
 use Rattle.frame_encoder.specs.declared.order.EncodeOrder.{EncodeOrder}
 
@@ -30,21 +22,3 @@ pub record IsCertOf (order : EncodeOrder) (name : List ℕ) (p : Picture) (e : E
   pub empty : says.empty ≡ e.empty
   -- multipliers, gap, distortion of the chosen passes, refused steps
   pub certificate : says.certificate ≡ e.certificate
-
--- the place or the number of bytes of a fault, if it has one
-abbrev pub numbers_of : FrameFault → List ℕ
-numbers_of NotPpm = []
-numbers_of (BadHeader place) = place ∷ []
-numbers_of HeaderTooLong = []
-numbers_of WrongMaxval = []
-numbers_of WidthOutOfRange = []
-numbers_of HeightOutOfRange = []
-numbers_of (SampleTooLarge place) = place ∷ []
-numbers_of (Truncated seen) = seen ∷ []
-numbers_of TrailingBytes = []
-
--- the line of a file that is no frame, by its first fault
-abbrev pub refused_line : List ℕ → FrameFault → List ℕ
-refused_line name fault =
-    refused_start name (number_of fault)
-    ++ (flat_map number_field (numbers_of fault) ++ codes "\n")

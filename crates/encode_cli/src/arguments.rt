@@ -1,11 +1,9 @@
-// The words after the program's name.
-ghost use Rattle.std.specs.Prelude.{◌≡◌, MatchOption, IfOk, IfSome, IfNone};
-ghost use Rattle.encode_cli.specs.Arguments.{texts, encode_words, AreCommand, IsEncode};
-ghost use Rattle.encode_cli.specs.Arguments.{AreFoldersOf};
-ghost use Rattle.cert_text.specs.Words.{profile_word};
-ghost use Rattle.cine_nums.specs.declared.profile.Profile.{Profile};
+// What the words after the program's name order.
+ghost use Rattle.std.specs.Prelude.{IfNone, IfOk, IfSome};
+ghost use Rattle.command_words.specs.Taken.{texts};
+ghost use Rattle.encode_cli.specs.Arguments.{AreCommand, AreFoldersOf, IsEncode};
 
-use cine_nums::Profile;
+use command_words::encode_words;
 use frame_encoder::EncodeOrder;
 use std::alloc::{AllocError, Global};
 
@@ -20,44 +18,18 @@ pub struct FolderWords {
     pub suffix: String,
 }
 
-/// The profile of this word, if it is one.
-fn profile_of(word: &str) -> Option<Profile>
-    ensures { MatchOption result ((profile : Profile) → word.now ≡ profile_word profile → ⊥)
-        (λ profile. word.now ≡ profile_word profile) }
-{
-    match word {
-        "2k" => Some(Profile::TwoK),
-        "4k" => Some(Profile::FourK),
-        _ => None,
-    }
-}
-
-/// The source, the target and the profile, where the words are
-/// `encode SOURCE TARGET --profile PROFILE`.
-fn encode_words(words: &[String]) -> Option<(&str, &str, Profile)>
-    ensures { MatchOption result (AreCommand (texts words.now) → ⊥)
-        (λ found. texts words.now ≡ encode_words found.0.now found.1.now found.2) }
-{
-    match words {
-        [mode, source, target, option, profile]
-            if mode.as_str() == "encode" && option.as_str() == "--profile" => {
-            match profile_of(profile.as_str()) {
-                Some(profile) => Some((source.as_str(), target.as_str(), profile)),
-                None => None,
-            }
-        }
-        _ => None,
-    }
-}
-
 /// What the words order: None exactly if they are no command.
-pub fn order_of(words: &[String]) -> Option<EncodeOrder>
-    ensures { MatchOption result (AreCommand (texts words.now) → ⊥)
-        (λ order. IsEncode (texts words.now) order) }
+pub fn order_of(alloc: Global, words: &[String]) -> Result<Option<EncodeOrder>, AllocError>
+    ensures no_command { IfOk result (λ found. IfNone found (AreCommand (texts words.now) → ⊥)) }
+    ensures command { IfOk result (λ found. IfSome found
+        (λ order. IsEncode (texts words.now) order)) }
 {
-    match encode_words(words) {
-        Some((_, _, profile)) => Some(EncodeOrder::of(profile)),
-        None => None,
+    match encode_words(alloc, words)? {
+        Some(named) => Ok(Some(EncodeOrder {
+            profile: named.profile,
+            limits: named.limits,
+        })),
+        None => Ok(None),
     }
 }
 
@@ -67,10 +39,10 @@ pub fn places(alloc: Global, words: &[String]) -> Result<Option<FolderWords>, Al
     ensures command { IfOk result (λ found. IfSome found
         (λ folders. AreFoldersOf (texts words.now) folders)) }
 {
-    match encode_words(words) {
-        Some((source, target, _)) => Ok(Some(FolderWords {
-            source: Some(String::from_str(alloc, source)?),
-            target: Some(String::from_str(alloc, target)?),
+    match encode_words(alloc, words)? {
+        Some(named) => Ok(Some(FolderWords {
+            source: Some(String::from_str(alloc, named.source)?),
+            target: Some(String::from_str(alloc, named.target)?),
             suffix: String::from_str(alloc, ".ppm")?,
         })),
         None => Ok(None),

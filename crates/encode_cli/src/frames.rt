@@ -2,16 +2,17 @@
 ghost use Rattle.std.specs.Prelude.{◌≡◌, ◌<◌, ◌≤◌, ◌||◌, ◌++◌, ℕ, List, [], false, length, map};
 ghost use Rattle.std.specs.Prelude.{slice_get, IfOk, IfSome, OnOk, OnErr, Contains};
 ghost use Rattle.std.specs.Option.{ForSome};
-ghost use Rattle.budget_duals.specs.Held.{limits_of};
 ghost use Rattle.cine_nums.specs.Profile.{max_height_of, max_width_of};
 ghost use Rattle.cine_nums.specs.declared.profile.Profile.TheVariants.{FourK};
 ghost use Rattle.cine_ports.specs.Outputs.{kept_nothing};
+ghost use Rattle.frame_encoder.specs.Orders.{AreLimitsFor};
 ghost use Rattle.encode_cli.specs.Stop.{is_outputs_stop, is_report_stop, is_source_stop};
 ghost use Rattle.encode_cli.specs.Right.{sizes_of, Right, RightByName};
 ghost use Rattle.encode_cli.specs.Progress.{FrameVisited, FrameBrokeOff, FramesVisited};
 ghost use Rattle.encode_cli.specs.Progress.{FramesBrokeOff};
 
-use crate::frame::{refuse, write_frame};
+use crate::frame::{refuse, visit_picture};
+use crate::refusal::Refusal;
 use crate::stop::Stop;
 use cine_nums::Profile;
 use cine_ports::{Frames, Outputs, Report};
@@ -31,8 +32,8 @@ fn sizes_of(profile: Profile) -> SizeLimits
     }
 }
 
-/// Visits the frame at place `i`: where its file is a frame, writes its codestream and then reports
-/// its line, else reports its first fault. Returns whether it is refused.
+/// Visits the frame at place `i`: where its file is a frame, encodes it, else reports its first
+/// fault. Returns whether it is refused.
 fn visit_frame<F: Frames, O: Outputs, S: Report>(
     alloc: Global,
     order: &EncodeOrder,
@@ -42,7 +43,7 @@ fn visit_frame<F: Frames, O: Outputs, S: Report>(
     outputs: &mut O,
     report: &mut S,
 ) -> Result<bool, Stop>
-    requires limits { order.now.limits ≡ limits_of order.now.profile }
+    requires limits { AreLimitsFor order.now.profile order.now.limits }
     requires place { i < length (F.source frames.old).names }
     requires listed { IfSome (F.source frames.old).files
         (λ files. (F.source frames.old).names ≡ map (λ file. file.name) files) }
@@ -76,12 +77,11 @@ fn visit_frame<F: Frames, O: Outputs, S: Report>(
     match read_frame(alloc, frames, sizes_of(order.profile)) {
         Ok(frame) => {
             let name = frames.name(i);
-            write_frame(alloc, order, suffix, name, &frame, outputs, report)?;
-            Ok(false)
+            visit_picture(alloc, order, suffix, name, &frame, outputs, report)
         }
         Err(refusal) => match refusal {
             FrameRefusal::Fault(fault) => {
-                refuse(alloc, frames.name(i), fault, report)?;
+                refuse(alloc, frames.name(i), Refusal::File(fault), report)?;
                 Ok(true)
             }
             FrameRefusal::Source => Err(Stop::Source),
@@ -106,7 +106,7 @@ pub fn visit_frames<F: Frames, O: Outputs, S: Report>(
     outputs: &mut O,
     report: &mut S,
 ) -> Result<bool, Stop>
-    requires limits { order.now.limits ≡ limits_of order.now.profile }
+    requires limits { AreLimitsFor order.now.profile order.now.limits }
     requires unlisted { (F.source frames.old).is_listed ≡ false }
     requires source_working { F.has_failed frames.old ≡ false }
     requires outputs_working { O.has_failed outputs.old ≡ false }

@@ -7,14 +7,17 @@
 //!
 //! ```text
 //! cinema encode frames out --profile 2k
+//! cinema encode frames out --profile 4k --frame-bytes 1200000
 //! ```
 #![tactic(auto)]
 
 mod arguments;
 mod frame;
 mod frames;
+mod help;
 mod output;
 mod program;
+mod refusal;
 mod report_line;
 mod run;
 mod stop;

@@ -1,9 +1,11 @@
 // The program below `main`: its objects, its status, and what it says on standard error.
-ghost use Rattle.std.specs.Prelude.{◌≡◌, ◌==◌, ◌≤◌, ◌↔◌, false, IfOk};
+ghost use Rattle.std.specs.Prelude.{◌≡◌, ◌⊎◌, ◌==◌, ◌≤◌, false, IfOk};
 ghost use Rattle.std.specs.Process.{exit_status};
-ghost use Rattle.encode_cli.specs.Arguments.{texts, AreCommand};
+ghost use Rattle.command_words.specs.Taken.{texts};
+ghost use Rattle.encode_cli.specs.Arguments.{AreCommand};
 
 use crate::arguments::{FolderWords, places};
+use crate::help::page_of;
 use crate::run::run;
 use cine_ports::{Frames, NullOutputs, SteadyFrames};
 use std::alloc::AllocError;
@@ -33,7 +35,9 @@ fn run_over<F: Frames>(
     requires working { F.has_failed frames.old ≡ false }
     requires unlisted { (F.source frames.old).is_listed ≡ false }
     ensures range { IfOk result (λ status. status ≤ 6) }
-    ensures command { IfOk result (λ status. AreCommand (texts words.now) ↔ (status ≡ 2 → ⊥)) }
+    ensures command { IfOk result (λ status. AreCommand (texts words.now) → status ≡ 2 → ⊥) }
+    ensures no_command { IfOk result (λ status. (AreCommand (texts words.now) → ⊥) →
+        (status ≡ 2) ⊎ (status ≡ 6)) }
     ensures source_failed { IfOk result (λ status. F.has_failed frames.new ≡ (status == 3)) }
 {
     let alloc = rt.alloc();
@@ -53,7 +57,9 @@ fn run_over<F: Frames>(
 /// Runs over no frames at all, and returns the status of the run.
 fn run_over_none(rt: &HostRuntime, words: &[String]) -> Result<u8, AllocError>
     ensures range { IfOk result (λ status. status ≤ 6) }
-    ensures command { IfOk result (λ status. AreCommand (texts words.now) ↔ (status ≡ 2 → ⊥)) }
+    ensures command { IfOk result (λ status. AreCommand (texts words.now) → status ≡ 2 → ⊥) }
+    ensures no_command { IfOk result (λ status. (AreCommand (texts words.now) → ⊥) →
+        (status ≡ 2) ⊎ (status ≡ 6)) }
 {
     let mut frames = SteadyFrames::new(Vec::new(rt.alloc()));
     run_over(rt, words, &mut frames, None)
@@ -63,7 +69,9 @@ fn run_over_none(rt: &HostRuntime, words: &[String]) -> Result<u8, AllocError>
 /// or 5 where standard output is closed.
 fn run_words(rt: &HostRuntime, words: &[String]) -> Result<u8, AllocError>
     ensures range { IfOk result (λ status. status ≤ 6) }
-    ensures command { IfOk result (λ status. AreCommand (texts words.now) ↔ (status ≡ 2 → ⊥)) }
+    ensures command { IfOk result (λ status. AreCommand (texts words.now) → status ≡ 2 → ⊥) }
+    ensures no_command { IfOk result (λ status. (AreCommand (texts words.now) → ⊥) →
+        (status ≡ 2) ⊎ (status ≡ 6)) }
 {
     let alloc = rt.alloc();
     let Some(folders) = places(alloc, words)? else {
@@ -85,12 +93,16 @@ fn run_words(rt: &HostRuntime, words: &[String]) -> Result<u8, AllocError>
     run_over(rt, words, &mut frames, target)
 }
 
-/// Says on standard error what a status means, and makes it the exit status.
-fn end(rt: &HostRuntime, status: u8) -> ExitCode
+/// Says on standard error what a status means, and then this page, if there is one, and makes the
+/// status the exit status.
+fn end(rt: &HostRuntime, status: u8, page: Option<&str>) -> ExitCode
     ensures { exit_status result ≡ status }
 {
     if let Some(text) = message(status) {
         let _ = eprintln!(rt; "{text}");
+    }
+    if let Some(text) = page {
+        let _ = eprint!(rt; "{text}");
     }
     ExitCode::from(status)
 }
@@ -99,7 +111,7 @@ fn end(rt: &HostRuntime, status: u8) -> ExitCode
 /// run, 2 where the words can't be read, and 6 where memory runs out.
 pub fn run_program(rt: &HostRuntime, words: io::Result<Vec<String>>) -> ExitCode
     ensures range { exit_status result ≤ 6 }
-    // Words that are the command never end with 2, and others with 2 unless memory runs out.
+    // Words that are a command never end with 2, and others with 2 unless memory runs out.
     ensures command { IfOk words
         (λ words. AreCommand (texts words.items) → exit_status result ≡ 2 → ⊥) }
     ensures no_command { IfOk words (λ words. (AreCommand (texts words.items) → ⊥) →
@@ -107,11 +119,11 @@ pub fn run_program(rt: &HostRuntime, words: io::Result<Vec<String>>) -> ExitCode
 {
     match words {
         Ok(words) => match run_words(rt, words.as_slice()) {
-            Ok(status) => end(rt, status),
-            Err(AllocError) => end(rt, 6),
+            Ok(status) => end(rt, status, page_of(status, words.as_slice())),
+            Err(AllocError) => end(rt, 6, None),
         },
-        Err(error) if error.kind() == io::ErrorKind::OutOfMemory => end(rt, 6),
-        Err(_) => end(rt, 2),
+        Err(error) if error.kind() == io::ErrorKind::OutOfMemory => end(rt, 6, None),
+        Err(_) => end(rt, 2, None),
     }
 }
 

@@ -1,15 +1,16 @@
 // The lines of the report.
 ghost use Rattle.std.specs.Prelude.{◌≡◌, ◌<◌, ◌^◌, length, sum, is_some, IfOk, string_bytes};
-ghost use Rattle.budget_duals.specs.Held.{limits_of};
 ghost use Rattle.cine_nums.specs.Limits.{has_inner};
 ghost use Rattle.pnm_frames.specs.View.{picture_of};
 ghost use Rattle.frame_encoder.specs.Encoded.{encoding_of};
-ghost use Rattle.encode_cli.specs.ReportLine.{IsCertOf, numbers_of, refused_line};
+ghost use Rattle.frame_encoder.specs.Orders.{AreLimitsFor};
+ghost use Rattle.encode_cli.specs.Refused.{refused_line};
+ghost use Rattle.encode_cli.specs.ReportLine.{IsCertOf};
 
-use arrayvec::ArrayVec;
+use crate::refusal::Refusal;
 use cert_text::{CertLine, RefusedLine, write_refused};
 use frame_encoder::{EncodeOrder, Encoded};
-use pnm_frames::{Frame, FrameFault};
+use pnm_frames::Frame;
 use std::alloc::{AllocError, Global};
 
 /// The sum of a choice: how many coding passes there are of all code-blocks together.
@@ -34,7 +35,7 @@ pub fn certified(
     made: Encoded,
 ) -> Result<(Vec<u8>, CertLine), AllocError>
     requires few { length made.choice.items < 2 ^ 32 }
-    requires limits { order.now.limits ≡ limits_of order.now.profile }
+    requires limits { AreLimitsFor order.now.profile order.now.limits }
     ensures bytes { IfOk result (λ found. found.0.items ≡ made.bytes.items) }
     ensures says { IfOk result (λ found.
         IsCertOf order.now name.now (picture_of frame.now) (encoding_of made) found.1) }
@@ -62,28 +63,14 @@ pub fn certified(
     Ok((bytes, says))
 }
 
-/// The place or the number of bytes of a fault, if it has one.
-fn numbers_of(fault: FrameFault) -> ArrayVec<u64, 2>
-    ensures { result.items ≡ numbers_of fault }
-{
-    let mut numbers = ArrayVec::new();
-    match fault {
-        FrameFault::BadHeader(n) | FrameFault::SampleTooLarge(n) | FrameFault::Truncated(n) => {
-            numbers.push(u64::from(n));
-        }
-        _ => {}
-    }
-    numbers
-}
-
-/// The line of a file that is no frame, by its first fault.
-pub fn refused_line(alloc: Global, name: &str, fault: FrameFault) -> Result<String, AllocError>
-    ensures { IfOk result (λ line. string_bytes line ≡ refused_line name.now fault) }
+/// The line of a frame that is refused.
+pub fn refused_line(alloc: Global, name: &str, refusal: Refusal) -> Result<String, AllocError>
+    ensures { IfOk result (λ line. string_bytes line ≡ refused_line name.now refusal) }
 {
     let line = RefusedLine {
-        code: fault.number(),
-        budget: None,
-        numbers: numbers_of(fault),
+        code: refusal.code(),
+        budget: refusal.budget(),
+        numbers: refusal.numbers(),
     };
     write_refused(alloc, name, &line)
 }

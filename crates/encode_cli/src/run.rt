@@ -1,16 +1,17 @@
 // The whole run.
-ghost use Rattle.std.specs.Prelude.{◌≡◌, ◌≤◌, ◌↔◌, ◌==◌, if◌then◌else◌, [], false, IfSome};
+ghost use Rattle.std.specs.Prelude.{◌≡◌, ◌≤◌, ◌⊎◌, ◌==◌, if◌then◌else◌, [], false, IfSome};
 ghost use Rattle.std.specs.Option.{ForSome};
 ghost use Rattle.cine_ports.specs.Outputs.{kept_nothing};
 ghost use Rattle.frame_encoder.specs.declared.order.EncodeOrder.{EncodeOrder};
-ghost use Rattle.encode_cli.specs.Arguments.{texts, codestream_suffix, AreCommand, IsEncode};
+ghost use Rattle.command_words.specs.Taken.{texts};
+ghost use Rattle.encode_cli.specs.Arguments.{codestream_suffix, AreCommand, IsEncode};
 ghost use Rattle.encode_cli.specs.Right.{Right, RightByName};
 ghost use Rattle.encode_cli.specs.Run.{Leaves, AreShort, RunBrokeOff};
 
 use crate::arguments::order_of;
 use crate::frames::visit_frames;
 use cine_ports::{Frames, Outputs, Report};
-use std::alloc::Global;
+use std::alloc::{AllocError, Global};
 
 /// The status of a run that visited all frames.
 fn visited_status(some_refused: bool) -> u8
@@ -20,7 +21,9 @@ fn visited_status(some_refused: bool) -> u8
 }
 
 /// Encodes each frame of a source: its codestream goes to the outputs under the frame's name and
-/// `.j2c`, and then its certificate line to the report. A frame that is refused has a line alone.
+/// `.j2c`, and then its certificate line to the report. A frame that is refused has a line alone:
+/// its file is no frame, or a limit of the words is too small for its codestream without any coding
+/// pass.
 ///
 /// For every accepted frame, unless source, outputs, report or memory fail, `visited` promises (each
 /// sentence is the field in brackets, of `Encodes` in frame_encoder/specs/Encoded.antt):
@@ -38,11 +41,13 @@ fn visited_status(some_refused: bool) -> u8
 ///   multipliers, the gap and the refused steps of that same encoding (`certifies` of `IsAccepted`
 ///   in specs/Right.antt, with `IsCertOf` in specs/ReportLine.antt).
 ///
+/// The byte limits are those of the profile, or lower ones where the words have options for them.
+///
 /// Returns the status: 0 where all frames were visited and none was refused, 1 where all were and
-/// some was, 2 where the arguments are no command, 3, 4 and 5 where a call of the source, the
+/// some was, 2 where the words are no command, 3, 4 and 5 where a call of the source, the
 /// outputs and the report failed, and 6 where memory ran out. A failed call ends the run at once,
 /// and so does out of memory; an object of which a call has failed isn't called again.
-#[tactic(auto, using(crate::proofs::Progress::all_visited, crate::proofs::Progress::run_broken, crate::proofs::Limits::visited_short, crate::proofs::Limits::broken_short, crate::proofs::Limits::none_short, crate::proofs::FiveArguments::is_command, crate::proofs::Stops::source_status, crate::proofs::Stops::outputs_status, crate::proofs::Stops::report_status))]
+#[tactic(auto, using(crate::proofs::Progress::all_visited, crate::proofs::Progress::run_broken, crate::proofs::Limits::visited_short, crate::proofs::Limits::broken_short, crate::proofs::Limits::none_short, crate::proofs::Words::is_command, crate::proofs::Words::allowed, crate::proofs::Stops::source_status, crate::proofs::Stops::outputs_status, crate::proofs::Stops::report_status))]
 pub fn run<F: Frames, O: Outputs, S: Report>(
     alloc: Global,
     words: &[String],
@@ -59,9 +64,11 @@ pub fn run<F: Frames, O: Outputs, S: Report>(
     requires nothing_said { ForSome (S.said report.old) (λ said. said ≡ []) }
     ensures range { result ≤ 6 }
 
-    // Status 2 comes exactly if the arguments are no command, and then nothing was called.
-    ensures command { AreCommand (texts words.now) ↔ (result ≡ 2 → ⊥) }
-    ensures untouched { result ≡ 2 →
+    // Words that are no command end with 2, unless memory runs out while they are read, and
+    // nothing was called then. Words that are one never end with 2.
+    ensures command { AreCommand (texts words.now) → result ≡ 2 → ⊥ }
+    ensures no_command { (AreCommand (texts words.now) → ⊥) → (result ≡ 2) ⊎ (result ≡ 6) }
+    ensures untouched { (AreCommand (texts words.now) → ⊥) →
         (frames.new ≡ frames.old) × (outputs.new ≡ outputs.old) × (report.new ≡ report.old) }
 
     // Status 0 or 1: every frame has a right visit, with its output and its line, in order, and
@@ -72,8 +79,9 @@ pub fn run<F: Frames, O: Outputs, S: Report>(
         × Leaves (RightByName order codestream_suffix) (Right order codestream_suffix)
         (F.source frames.new) (O.kept outputs.new) (S.said report.new) result }
 
-    // Status 3 to 6: the run broke off at the frame that was asked for last.
-    ensures stopped { 3 ≤ result → (order : EncodeOrder) × IsEncode (texts words.now) order
+    // Status 3 to 5, and 6 for a command: the run broke off at the frame that was asked for last.
+    ensures stopped { 3 ≤ result → (result ≡ 6 → AreCommand (texts words.now)) →
+        (order : EncodeOrder) × IsEncode (texts words.now) order
         × RunBrokeOff (RightByName order codestream_suffix) (Right order codestream_suffix)
         (F.source frames.new) (F.reading frames.new).asked (O.kept outputs.new)
         (S.said report.new) }
@@ -90,7 +98,11 @@ pub fn run<F: Frames, O: Outputs, S: Report>(
     ensures outputs_failed { O.has_failed outputs.new ≡ (result == 4) }
     ensures report_failed { S.has_failed report.new ≡ (result == 5) }
 {
-    let Some(order) = order_of(words) else {
+    let found = match order_of(alloc, words) {
+        Ok(found) => found,
+        Err(AllocError) => return 6,
+    };
+    let Some(order) = found else {
         return 2;
     };
     match visit_frames(alloc, &order, ".j2c", frames, outputs, report) {

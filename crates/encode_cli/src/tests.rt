@@ -234,6 +234,56 @@ fn a_busy_frame_has_multipliers_and_refused_steps(rt: HostRuntime) -> Result<(),
     Ok(())
 }
 
+/// Options after `encode src dst --profile`, and the lines of a grey pixel and of one a little
+/// lighter with them.
+const LOWERED: &[(&str, &str)] = &[
+    (
+        "2k --frame-bytes 194",
+        "\
+ok a 2k 1x1 frame=191/194/0 c0=20/1041666/0 c1=20/1041666/0 c2=20/1041666/0 passes=0 empty=0 distortion=0 gap=0\n\
+ok d 2k 1x1 frame=191/194/71472550772736 c0=20/1041666/0 c1=20/1041666/0 c2=20/1041666/0 passes=0 empty=16641 distortion=16641 gap=49923 step=frame:0:0:18:1:3:16641:66564\n",
+    ),
+    (
+        "2k --frame-bytes=195",
+        "\
+ok a 2k 1x1 frame=191/195/0 c0=20/1041666/0 c1=20/1041666/0 c2=20/1041666/0 passes=0 empty=0 distortion=0 gap=0\n\
+ok d 2k 1x1 frame=195/195/0 c0=24/1041666/0 c1=20/1041666/0 c2=20/1041666/0 passes=18 empty=16641 distortion=0 gap=0\n",
+    ),
+    (
+        "2k --frame-bytes 190",
+        "refused a 10 LimitTooSmall frame 191\nrefused d 10 LimitTooSmall frame 191\n",
+    ),
+    (
+        "2k --component-bytes 19",
+        "refused a 10 LimitTooSmall c0 20\nrefused d 10 LimitTooSmall c0 20\n",
+    ),
+    (
+        "4k --inner-bytes 230 --component-bytes 19",
+        "refused a 10 LimitTooSmall inner 231\nrefused d 10 LimitTooSmall inner 231\n",
+    ),
+    (
+        "4k --frame-bytes 275 --inner-bytes 230",
+        "refused a 10 LimitTooSmall frame 276\nrefused d 10 LimitTooSmall frame 276\n",
+    ),
+];
+
+#[test]
+fn options_lower_the_limits(rt: HostRuntime) -> Result<(), Fail> {
+    let alloc = rt.alloc();
+    for (options, lines) in LOWERED {
+        let mut files = Vec::new(alloc);
+        files.push(file(alloc, "a", GREY)?)?;
+        files.push(file(alloc, "d", NEARLY_GREY)?)?;
+        let command = format!(in alloc; "encode src dst --profile {options}")?;
+        let ended = run_over(alloc, command.as_str(), files, &[], &[])?;
+        let refused = lines.starts_with("refused");
+        assert_eq!(rt; ended.status, if refused { 1 } else { 0 });
+        assert_eq!(rt; ended.outputs.files().len(), if refused { 0 } else { 2 });
+        assert!(rt; ended.report.bytes() == lines.as_bytes(), "{options}");
+    }
+    Ok(())
+}
+
 #[test]
 fn a_fault_of_the_outputs_ends_a_run(rt: HostRuntime) -> Result<(), Fail> {
     let alloc = rt.alloc();

@@ -10,6 +10,6 @@ returns-in-Ok-clause-ok g c =
 
 pub returns-clause-err : goal.returns-clause-err
 returns-clause-err g c = λ kept.
-    refusal_broken c.args.name.now c.args.fault c.as_bytes.result.now kept
+    refusal_broken c.args.name.now c.args.refusal c.as_bytes.result.now kept
     (g.S.Report.said c.args.report.now) (g.S.Report.said c.say.new.report)
     (c.as_bytes.ensures.value ∙ c.in_ok-line.ensures) c.in-Err.ensures.err

@@ -1,5 +1,6 @@
 use Rattle.std.proofs.Common.{◌≡◌, Option, Result, Ok, Err, refl, sym}
-use Rattle.std.proofs.Common.{ap, subst}
+use Rattle.std.proofs.Common.{subst}
+use Rattle.std.proofs.lemmas.Result.{IfOk-weaker}
 use Rattle.cine_ports.specs.Outputs.{Kept}
 use Rattle.pnm_frames.specs.declared.fault.FrameFault.{FrameFault}
 use Rattle.pnm_frames.specs.declared.refusal.FrameRefusal.{FrameRefusal}
@@ -8,11 +9,11 @@ use Rattle.pnm_frames.specs.Fault.{Fails}
 use Rattle.pnm_frames.specs.Picture.{Picture}
 use Rattle.pnm_frames.specs.View.{picture_of}
 use Rattle.encode_cli.specs.Right.{refused}
+use Rattle.encode_cli.specs.declared.refusal.Refusal.TheVariants.{File}
 use Rattle.encode_cli.specs.Progress.{VisitBrokeOff}
-use Rattle.encode_cli.specs.Visit.{Visit}
 use Rattle.encode_cli.proofs.Breaks.{none_added}
 use Rattle.encode_cli.proofs.Known.{visit_at, breaks_at}
-use Rattle.encode_cli.proofs.Outputs.{on_err}
+use Rattle.encode_cli.proofs.Outputs.{err_more, on_err}
 use Rattle.encode_cli.proofs.frames.visit_frame.Goals as goal
 
 -- the fault for which a file was refused
@@ -20,16 +21,15 @@ faulty : (refusal : FrameRefusal) (fault : FrameFault) (read : Result Picture Fr
     refusal ≡ refusals.Fault fault → Fails refusal read → read ≡ Err fault
 faulty refusal fault read is fails = subst (λ (r : FrameRefusal). Fails r read) is fails
 
-pub returns-in_err-write_frame-in-Ok-read_frame-clause-err :
-    goal.returns-in_err-write_frame-in-Ok-read_frame-clause-err
-returns-in_err-write_frame-in-Ok-read_frame-clause-err g c =
-    on_err c.from_residual.result
-    (breaks_at c.args.order.now c.args.suffix.now (g.F.Frames.source c.args.frames.now)
-    (g.F.Frames.source c.begin.new.self) (g.F.Frames.source c.read_frame.new.f)
-    c.args.i c.name-name.result.now (g.F.Frames.reading c.begin.new.self).left c.sizes_of.result
+pub returns-in-Ok-read_frame-clause-err : goal.returns-in-Ok-read_frame-clause-err
+returns-in-Ok-read_frame-clause-err g c =
+    err_more c.visit_picture.result (breaks_at c.args.order.now c.args.suffix.now
+    (g.F.Frames.source c.args.frames.now) (g.F.Frames.source c.begin.new.self)
+    (g.F.Frames.source c.read_frame.new.f) c.args.i c.name-name.result.now
+    (g.F.Frames.reading c.begin.new.self).left c.sizes_of.result
     (Ok (picture_of c.in-Ok-read_frame.frame))
-    (g.O.Outputs.kept c.args.outputs.now) (g.O.Outputs.kept c.write_frame.new.outputs)
-    (g.S.Report.said c.args.report.now) (g.S.Report.said c.write_frame.new.report)
+    (g.O.Outputs.kept c.args.outputs.now) (g.O.Outputs.kept c.visit_picture.new.outputs)
+    (g.S.Report.said c.args.report.now) (g.S.Report.said c.visit_picture.new.report)
     (record {
       begun_same = c.begin.ensures.source;
       read_same = c.read_frame.ensures.source;
@@ -38,13 +38,11 @@ returns-in_err-write_frame-in-Ok-read_frame-clause-err g c =
       named = c.name-name.ensures;
       sizes = c.sizes_of.ensures.value;
       exact = c.in-Ok-read_frame.ensures.exact;
-    }) c.in_err-write_frame-in-Ok-read_frame.ensures.err)
+    })) c.visit_picture.ensures.err
 
-pub returns-in_ok-write_frame-in-Ok-read_frame-clause-ok :
-    goal.returns-in_ok-write_frame-in-Ok-read_frame-clause-ok
-returns-in_ok-write_frame-in-Ok-read_frame-clause-ok g c =
-    let done = c.in_ok-write_frame-in-Ok-read_frame.ensures.ok in
-    record {
+pub returns-in-Ok-read_frame-clause-ok : goal.returns-in-Ok-read_frame-clause-ok
+returns-in-Ok-read_frame-clause-ok g c =
+    IfOk-weaker c.visit_picture.result _ _ (λ is_refused done. record {
       visit = done.0;
       is_visit = visit_at c.args.order.now c.args.suffix.now (g.F.Frames.source c.args.frames.now)
           (g.F.Frames.source c.begin.new.self) (g.F.Frames.source c.read_frame.new.f)
@@ -62,8 +60,8 @@ returns-in_ok-write_frame-in-Ok-read_frame-clause-ok g c =
           }) done.1;
       kept = done.2;
       said = done.3;
-      refused = sym (ap (λ (v : Visit). v.refused) done.1.is);
-    }
+      refused = done.4;
+    }) c.visit_picture.ensures.ok
 
 pub returns-in_err-refuse-in-Fault-clause-err : goal.returns-in_err-refuse-in-Fault-clause-err
 returns-in_err-refuse-in-Fault-clause-err g c =
@@ -72,10 +70,10 @@ returns-in_err-refuse-in-Fault-clause-err g c =
     let said_now = g.S.Report.said c.refuse.new.report in
     let name = c.name.result.now in
     let fault = c.in-Fault.fault in
-    let broken : VisitBrokeOff (λ v. v ≡ refused name fault) kept kept said said_now =
-    subst (λ (k : Option Kept). VisitBrokeOff (λ v. v ≡ refused name fault) k k said said_now)
+    let broken : VisitBrokeOff (λ v. v ≡ refused name (File fault)) kept kept said said_now =
+    subst (λ (k : Option Kept). VisitBrokeOff (λ v. v ≡ refused name (File fault)) k k said said_now)
     (none_added kept c.requires.at_rest) (c.in_err-refuse-in-Fault.ensures.err kept) in
-    on_err c.from_residual-in_err-refuse-in-Fault.result
+    on_err c.from_residual.result
     (breaks_at c.args.order.now c.args.suffix.now (g.F.Frames.source c.args.frames.now)
     (g.F.Frames.source c.begin.new.self) (g.F.Frames.source c.read_frame.new.f)
     c.args.i name (g.F.Frames.reading c.begin.new.self).left c.sizes_of.result
@@ -96,11 +94,11 @@ returns-in_ok-refuse-in-Fault-clause-ok g c =
     let name = c.name.result.now in
     let fault = c.in-Fault.fault in
     record {
-      visit = refused name fault;
+      visit = refused name (File fault);
       is_visit = visit_at c.args.order.now c.args.suffix.now (g.F.Frames.source c.args.frames.now)
           (g.F.Frames.source c.begin.new.self) (g.F.Frames.source c.read_frame.new.f)
           c.args.i name (g.F.Frames.reading c.begin.new.self).left c.sizes_of.result (Err fault)
-          (refused name fault)
+          (refused name (File fault))
           (record {
             begun_same = c.begin.ensures.source;
             read_same = c.read_frame.ensures.source;
