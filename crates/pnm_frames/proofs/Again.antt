@@ -1,80 +1,81 @@
 -- What the grammar spells is read.
-use Rattle.std.proofs.Common.{◌≡◌, ℕ, suc, ◌+◌, ◌*◌, ◌-◌, ◌≤◌, true, false, List, [], ◌∷◌, ◌++◌}
-use Rattle.std.proofs.Common.{length, Some, Ok, refl, sym, ap, ◌∙◌, arith}
+use Rattle.std.proofs.Common.{◌≡◌, ℕ, suc, ◌+◌, ◌*◌, ◌-◌, ◌≤◌, Bool, true, false, eqb, List, []}
+use Rattle.std.proofs.Common.{◌∷◌, ◌++◌, length, Some, Ok, refl, sym, ap, ◌∙◌, arith}
 use Rattle.std.specs.Prelude.{All, nat_lt}
 use Rattle.std.specs.Char.{is_ascii_digit}
 use Rattle.std.proofs.lemmas.Bool.{lt-ltb, le-leb}
-use Rattle.std.proofs.lemmas.Bool.Decides.{nat_tests}
 use Rattle.std.proofs.lemmas.List.{append-nil}
 use Rattle.pnm_frames.specs.declared.limits.SizeLimits.{SizeLimits}
 use Rattle.pnm_frames.specs.Picture.{Picture, Fits, interleaved, raster}
-use Rattle.pnm_frames.specs.Grammar.{is_white, value_from, IsNumeral, header, header_limit}
-use Rattle.pnm_frames.specs.Grammar.{IsHeader, Spells}
-use Rattle.pnm_frames.specs.Reading.{white_at, digits_at, number_at, ranged_at, magic_at, header_at}
-use Rattle.pnm_frames.specs.Reading.{samples_at, frame_of}
+use Rattle.pnm_frames.specs.Grammar.{begins_gap, ends_number, value_from, IsNumeral, header}
+use Rattle.pnm_frames.specs.Grammar.{header_limit, IsHeader, Spells}
+use Rattle.pnm_frames.specs.Reading.{stays_open, gap_at, digits_at, number_at, ranged_at, magic_at}
+use Rattle.pnm_frames.specs.Reading.{header_at, samples_at, frame_of}
 use Rattle.pnm_frames.proofs.Files.{frame-read}
-use Rattle.pnm_frames.proofs.Grammar.{IsWhite, IsDigit, whole-header, length-header}
+use Rattle.pnm_frames.proofs.Gaps.{Runs, gap-runs, gap-some, digit-ends}
+use Rattle.pnm_frames.proofs.Grammar.{IsDigit, whole-header, length-header}
 use Rattle.pnm_frames.proofs.Planes.{length-interleaved, All-interleaved}
 use Rattle.pnm_frames.proofs.Samples.{samples-again}
 
-white-again : (gap : List ℕ) (at next b : ℕ) (rest : List ℕ) → All IsWhite gap →
-    is_white b ≡ false → next ≡ at + length gap + 1 → next ≤ header_limit →
-    white_at at (gap ++ (b ∷ rest)) ≡ Ok (b, next, rest)
-white-again [] at next b rest all other place room =
+gap-again : (commented : Bool) (gap : List ℕ) (at next b : ℕ) (rest : List ℕ) →
+    Runs commented gap false →
+    begins_gap b ≡ false → next ≡ at + length gap + 1 → next ≤ header_limit →
+    gap_at commented at (gap ++ (b ∷ rest)) ≡ Ok (b, next, rest)
+gap-again commented [] at next b rest runs other place room =
     let early : nat_lt at header_limit ≡ true = lt-ltb at header_limit (omega arith) in
     let here : next ≡ suc at = omega arith in
-    rw (here, early, other) refl
-white-again (x ∷ gap) at next b rest all other place room =
+    rw (here, early, runs, other) refl
+gap-again commented (x ∷ gap) at next b rest runs other place room =
     let early : nat_lt at header_limit ≡ true = lt-ltb at header_limit (omega arith) in
-    let white : is_white x ≡ true = all 0 0 (omega arith) in
-    rw (early, white) (white-again gap (suc at) next b rest
-    (λ k d lt. all (suc k) d (omega arith)) other (omega arith) room)
+    rw (early, runs.0) (gap-again (stays_open commented x) gap (suc at) next b rest
+    runs.1 other (omega arith) room)
 
-pub no-white : (b : ℕ) → is_ascii_digit b ≡ true → is_white b ≡ false
-no-white b digit = grind (arith, nat_tests)
-
-digits-again : (digits : List ℕ) (n at next end : ℕ) (rest : List ℕ) → All IsDigit digits →
-    is_white end ≡ true → next ≡ at + length digits + 1 → next ≤ header_limit →
-    digits_at n at (digits ++ (end ∷ rest)) ≡ Ok (value_from n digits, next, rest)
-digits-again [] n at next end rest all ends place room =
+digits-again : (last : Bool) (digits : List ℕ) (n at next end : ℕ) (rest : List ℕ) →
+    All IsDigit digits →
+    ends_number last end ≡ true → next ≡ at + length digits + 1 → next ≤ header_limit →
+    digits_at last n at (digits ++ (end ∷ rest)) ≡ Ok ((value_from n digits, end), next, rest)
+digits-again last [] n at next end rest all ends place room =
     let early : nat_lt at header_limit ≡ true = lt-ltb at header_limit (omega arith) in
     let here : next ≡ suc at = omega arith in
     rw (here, early, ends) refl
-digits-again (x ∷ digits) n at next end rest all ends place room =
+digits-again last (x ∷ digits) n at next end rest all ends place room =
     let early : nat_lt at header_limit ≡ true = lt-ltb at header_limit (omega arith) in
     let digit : is_ascii_digit x ≡ true = all 0 0 (omega arith) in
-    rw (early, no-white x digit, digit)
-    (digits-again digits (10 * n + (x - 48)) (suc at) next end rest
+    rw (early, digit-ends last x digit, digit)
+    (digits-again last digits (10 * n + (x - 48)) (suc at) next end rest
     (λ k d lt. all (suc k) d (omega arith)) ends (omega arith) room)
 
-pub number-again : (gap digits : List ℕ) (at next n end : ℕ) (rest : List ℕ) → All IsWhite gap →
-    IsNumeral digits n → is_white end ≡ true → next ≡ at + length gap + length digits + 1 →
-    next ≤ header_limit
-    → number_at at (gap ++ (digits ++ (end ∷ rest))) ≡ Ok (n, next, rest)
+pub number-again : (last : Bool) (begun : ℕ) (gap digits : List ℕ) (at next n end : ℕ)
+    (rest : List ℕ) → Runs (eqb begun 35) gap false →
+    IsNumeral digits n → ends_number last end ≡ true →
+    next ≡ at + length gap + length digits + 1 → next ≤ header_limit
+    → number_at last begun at (gap ++ (digits ++ (end ∷ rest))) ≡ Ok ((n, end), next, rest)
 unfolding number_at
-number-again gap [] at next n end rest all numeral ends place room =
+number-again last begun gap [] at next n end rest runs numeral ends place room =
     absurd (omega (arith, numeral.some))
-number-again gap (x ∷ digits) at next n end rest all numeral ends place room =
+number-again last begun gap (x ∷ digits) at next n end rest runs numeral ends place room =
     let digit : is_ascii_digit x ≡ true = numeral.ascii 0 0 (omega arith) in
     let from : 10 * 0 + (x - 48) ≡ x - 48 = omega arith in
     let worth : value_from (x - 48) digits ≡ n = ap (λ (k : ℕ). value_from k digits) (sym from)
     ∙ numeral.worth in
-    let white = white-again gap at (at + length gap + 1) x (digits ++ (end ∷ rest)) all
-    (no-white x digit) refl (omega arith) in
-    let number = digits-again digits (x - 48) (at + length gap + 1) next end rest
+    let over = gap-again (eqb begun 35) gap at (at + length gap + 1) x (digits ++ (end ∷ rest)) runs
+    (digit-ends false x digit) refl (omega arith) in
+    let number = digits-again last digits (x - 48) (at + length gap + 1) next end rest
     (λ k d lt. numeral.ascii (suc k) d (omega arith)) ends (omega arith) room in
-    rw (white, digit, number, worth) refl
+    rw (over, digit, number, worth) refl
 
-pub ranged-again : (low high at n next : ℕ) (bytes rest : List ℕ) → low ≤ n → n ≤ high →
-    number_at at bytes ≡ Ok (n, next, rest) → ranged_at low high at bytes ≡ Ok (Some n, next, rest)
+pub ranged-again : (last : Bool) (low high begun at n end next : ℕ) (bytes rest : List ℕ) →
+    low ≤ n → n ≤ high →
+    number_at last begun at bytes ≡ Ok ((n, end), next, rest) →
+    ranged_at last low high begun at bytes ≡ Ok ((Some n, end), next, rest)
 unfolding ranged_at
-ranged-again low high at n next bytes rest le ge number =
+ranged-again last low high begun at n end next bytes rest le ge number =
     rw (number, le-leb low n le, le-leb n high ge) refl
 
-magic-again : (g : ℕ) (rest : List ℕ) → is_white g ≡ true →
-    magic_at 0 (80 ∷ 54 ∷ g ∷ rest) ≡ Ok (tt, 3, rest)
+magic-again : (g : ℕ) (rest : List ℕ) → begins_gap g ≡ true →
+    magic_at 0 (80 ∷ 54 ∷ g ∷ rest) ≡ Ok (g, 3, rest)
 unfolding magic_at
-magic-again g rest white = rw white refl
+magic-again g rest begins = rw begins refl
 
 pub parts-again : (limits : SizeLimits) (w h end : ℕ)
     (gap1 wide gap2 tall gap3 maxval rest : List ℕ) → 1 ≤ w → w ≤ limits.width → 1 ≤ h →
@@ -112,11 +113,11 @@ pub parts-again : (limits : SizeLimits) (w h end : ℕ)
     })) ≡ at)
 unfolding header_at
 parts-again limits w h end [] wide gap2 tall gap3 maxval rest w1 w2 h1 h2 is =
-    absurd (omega (arith, is.gap1.some))
+    absurd (omega (arith, gap-some [] is.gap1))
 parts-again limits w h end (g ∷ g1) wide [] tall gap3 maxval rest w1 w2 h1 h2 is =
-    absurd (omega (arith, is.gap2.some))
+    absurd (omega (arith, gap-some [] is.gap2))
 parts-again limits w h end (g ∷ g1) wide (e1 ∷ g2) tall [] maxval rest w1 w2 h1 h2 is =
-    absurd (omega (arith, is.gap3.some))
+    absurd (omega (arith, gap-some [] is.gap3))
 parts-again limits w h end (g ∷ g1) wide (e1 ∷ g2) tall (e2 ∷ g3) maxval rest w1 w2 h1 h2 is =
     let len = length-header g e1 e2 end g1 wide g2 tall g3 maxval in
     let p1 : ℕ = 3 + length g1 + length wide + 1 in
@@ -126,18 +127,17 @@ parts-again limits w h end (g ∷ g1) wide (e1 ∷ g2) tall (e2 ∷ g3) maxval r
     let r2 : List ℕ = g2 ++ (tall ++ (e2 ∷ r3)) in
     let r1 : List ℕ = g1 ++ (wide ++ (e1 ∷ r2)) in
     let room : p3 ≤ header_limit = omega (arith, len, is.short) in
-    let magic = magic-again g r1 (is.gap1.white 0 0 (omega arith)) in
-    let width = ranged-again 1 limits.width 3 w p1 r1 r2 w1 w2
-    (number-again g1 wide 3 p1 w e1 r2
-    (λ k d lt. is.gap1.white (suc k) d (omega arith)) is.width_is
-    (is.gap2.white 0 0 (omega arith)) refl (omega arith)) in
-    let height = ranged-again 1 limits.height p1 h p2 r2 r3 h1 h2
-    (number-again g2 tall p1 p2 h e2 r3
-    (λ k d lt. is.gap2.white (suc k) d (omega arith)) is.height_is
-    (is.gap3.white 0 0 (omega arith)) refl (omega arith)) in
-    let last = ranged-again 4095 4095 p2 4095 p3 r3 rest (omega arith) (omega arith)
-    (number-again g3 maxval p2 p3 4095 end rest
-    (λ k d lt. is.gap3.white (suc k) d (omega arith)) is.maxval is.ended refl room) in
+    let runs1 = gap-runs (g ∷ g1) is.gap1 in
+    let runs2 = gap-runs (e1 ∷ g2) is.gap2 in
+    let runs3 = gap-runs (e2 ∷ g3) is.gap3 in
+    let magic = magic-again g r1 runs1.0 in
+    let width = ranged-again false 1 limits.width g 3 w e1 p1 r1 r2 w1 w2
+    (number-again false g g1 wide 3 p1 w e1 r2 runs1.1 is.width_is runs2.0 refl (omega arith)) in
+    let height = ranged-again false 1 limits.height e1 p1 h e2 p2 r2 r3 h1 h2
+    (number-again false e1 g2 tall p1 p2 h e2 r3 runs2.1 is.height_is runs3.0 refl
+    (omega arith)) in
+    let last = ranged-again true 4095 4095 e2 p2 4095 end p3 r3 rest (omega arith) (omega arith)
+    (number-again true e2 g3 maxval p2 p3 4095 end rest runs3.1 is.maxval is.ended refl room) in
     let whole = whole-header g e1 e2 end g1 wide g2 tall g3 maxval rest r1 r2 r3
     (80 ∷ 54 ∷ g ∷ r1) refl refl refl refl in (
       p3,

@@ -1,12 +1,12 @@
 -- The fault that reading gives is what is wrong with a file.
 use Rattle.std.proofs.Common.{◌≡◌, ℕ, zero, suc, ◌+◌, ◌*◌, ◌-◌, ◌<◌, ◌≤◌, Bool, true, false, cond}
-use Rattle.std.proofs.Common.{◌&&◌, ◌⊎◌, List, [], ◌∷◌, ◌++◌, length, Some, None, Result, Ok, Err}
+use Rattle.std.proofs.Common.{◌&&◌, ◌⊎◌, eqb, List, [], ◌∷◌, ◌++◌, length, Some, None, Result, Ok, Err}
 use Rattle.std.proofs.Common.{refl, sym, ap, subst, ◌∙◌, inl, inr, append_assoc, arith, zero-add}
 use Rattle.std.proofs.Common.{length-append}
 use Rattle.std.specs.Prelude.{All, nat_lt, nat_le}
 use Rattle.std.specs.Char.{is_ascii_digit}
-use Rattle.std.specs.List.{flat_map}
-use Rattle.std.proofs.lemmas.Bool.{ltb-true, ltb-false, leb-true, leb-false}
+use Rattle.std.specs.List.{concat, flat_map}
+use Rattle.std.proofs.lemmas.Bool.{lt-ltb, ltb-true, ltb-false, leb-true, leb-false}
 use Rattle.std.proofs.lemmas.Bool.Decides.{eqb_tells}
 use Rattle.std.proofs.lemmas.Grind.{flat_map-append}
 use Rattle.std.proofs.lemmas.List.{append-nil}
@@ -17,18 +17,21 @@ use Rattle.pnm_frames.specs.declared.fault.FrameFault.TheVariants.{NotPpm, BadHe
 use Rattle.pnm_frames.specs.declared.fault.FrameFault.TheVariants.{SampleTooLarge, Truncated}
 use Rattle.pnm_frames.specs.declared.fault.FrameFault.TheVariants.{TrailingBytes}
 use Rattle.pnm_frames.specs.Fault.{◌>>=◌}
-use Rattle.pnm_frames.specs.Grammar.{is_white, header_limit, IsGap, header}
-use Rattle.pnm_frames.specs.HasFault.{IsInRange, range_fault, HasNumbers, IsOpen, Pair, pair_value}
-use Rattle.pnm_frames.specs.HasFault.{pair_bytes, HasSamples, HasAllSamples, IsOutOfRange, HasFault}
+use Rattle.pnm_frames.specs.Grammar.{begins_gap, ends_number, header_limit, IsGap, header}
+use Rattle.pnm_frames.specs.HasFault.{IsInRange, range_fault, HasNumbers, IsOpen, IsCommented}
+use Rattle.pnm_frames.specs.HasFault.{IsBegun, Pair, pair_value, pair_bytes, HasSamples}
+use Rattle.pnm_frames.specs.HasFault.{HasAllSamples, in_maxval, IsOutOfRange, HasFault}
 use Rattle.pnm_frames.specs.Picture.{Picture, IsSample, IsWithin}
-use Rattle.pnm_frames.specs.Reading.{Read, white_at, digits_at, number_at, ranged_at, or_fault}
-use Rattle.pnm_frames.specs.Reading.{magic_at, header_at, samples_at, ended, frame_of}
+use Rattle.pnm_frames.specs.Reading.{Read, goes_on, stays_open, gap_at, digits_at, number_at}
+use Rattle.pnm_frames.specs.Reading.{ranged_at, or_fault, magic_at, header_at, samples_at, ended}
+use Rattle.pnm_frames.specs.Reading.{frame_of}
 use Rattle.pnm_frames.proofs.FirstFault.{Samples, with_sample, picture, behind_samples}
 use Rattle.pnm_frames.proofs.FirstFault.{behind_header}
-use Rattle.pnm_frames.proofs.Grammar.{IsWhite, IsDigit, Point, Choice, Mark, Sizes, NumberRead}
-use Rattle.pnm_frames.proofs.Grammar.{HeaderRead, chosen, value-is, no-value, refused, bind_ok}
-use Rattle.pnm_frames.proofs.Grammar.{behind_white, judged, white-found, number-found, magic-found}
-use Rattle.pnm_frames.proofs.Grammar.{header-found, gap-of, step1, step3, step5, step7}
+use Rattle.pnm_frames.proofs.Gaps.{Runs, runs-more, parsed, gap-of}
+use Rattle.pnm_frames.proofs.Grammar.{IsDigit, Point, Number, Choice, Sizes, NumberRead, HeaderRead}
+use Rattle.pnm_frames.proofs.Grammar.{chosen, value-is, no-value, refused, bind_ok, behind_gap}
+use Rattle.pnm_frames.proofs.Grammar.{choice_of, judged, gap-found, number-found, magic-found}
+use Rattle.pnm_frames.proofs.Grammar.{header-found, step1, step3, step5, step7}
 
 fault-is : {B : Type 0} (d e : FrameFault) → refused {A = B} d ≡ refused e → d ≡ e
 fault-is d e h = cc
@@ -44,23 +47,24 @@ no-fault e = cc
 
 -- ---- a header that hasn't ended
 
-open-late : (limits : SizeLimits) (prefix rest : List ℕ) (at : ℕ) → IsOpen limits prefix →
+open-late : (limits : SizeLimits) (prefix rest : List ℕ) (at : ℕ) → IsBegun limits prefix →
     length prefix ≡ at → at ≤ header_limit → header_limit ≤ at →
     HasFault limits (prefix ++ rest) HeaderTooLong
 open-late limits prefix rest at so_far len room late =
     (prefix, rest, refl, omega (arith, len, room, late), so_far)
 
-open-short : (limits : SizeLimits) (prefix : List ℕ) (at : ℕ) → IsOpen limits prefix →
+open-short : (limits : SizeLimits) (prefix : List ℕ) (at : ℕ) → IsBegun limits prefix →
     length prefix ≡ at → at < header_limit → HasFault limits (prefix ++ []) (Truncated at)
 open-short limits prefix at so_far len early =
     rw (append-nil prefix) (len, inr (inr (inr (inl (so_far, omega (arith, len, early))))))
 
-open-bad : (limits : SizeLimits) (prefix : List ℕ) (at b : ℕ) (rest : List ℕ) → IsOpen limits prefix
-    →
-    length prefix ≡ at → at < header_limit → is_white b ≡ false → is_ascii_digit b ≡ false
+open-bad : (limits : SizeLimits) (prefix : List ℕ) (at b : ℕ) (rest : List ℕ) →
+    (so_far : IsOpen limits prefix) →
+    length prefix ≡ at → at < header_limit → ends_number (in_maxval so_far) b ≡ false →
+    is_ascii_digit b ≡ false
     → HasFault limits (prefix ++ (b ∷ rest)) (BadHeader at)
 open-bad limits prefix at b rest so_far len early other bad =
-    (prefix, b, rest, refl, len, early, (other, inr (so_far, bad)))
+    (prefix, b, rest, refl, len, early, inr (so_far, other, bad))
 
 told : (limits : SizeLimits) (bytes : List ℕ) (d e : FrameFault) → d ≡ e → HasFault limits bytes d →
     HasFault limits bytes e
@@ -68,7 +72,7 @@ told limits bytes d e same has = subst (λ (x : FrameFault). HasFault limits byt
 
 -- a file that ends in a header, or a header that is as long as the longest
 open-ends : {A : Type 0} (limits : SizeLimits) (prefix : List ℕ) (at : ℕ) (e : FrameFault) →
-    IsOpen limits prefix → length prefix ≡ at → at ≤ header_limit
+    IsBegun limits prefix → length prefix ≡ at → at ≤ header_limit
     → cond (nat_lt at header_limit) (refused {A = A} (Truncated at)) (refused HeaderTooLong)
     ≡ refused e → HasFault limits (prefix ++ []) e
 open-ends limits prefix at e so_far len room h =
@@ -80,62 +84,83 @@ open-ends limits prefix at e so_far len room h =
           (open-late limits prefix [] at so_far len room (ltb-false at header_limit late.0))
     ]
 
--- ---- white space
+-- ---- gaps
 
-open-gap : (limits : SizeLimits) (k : ℕ) (before gap : List ℕ) → k < 3 →
-    HasNumbers limits k before → IsGap gap → IsOpen limits (before ++ gap)
-open-gap limits k before gap few begins is_gap = record {
+abbrev open-gap : (limits : SizeLimits) (k : ℕ) (before : List ℕ) (g : ℕ) (gap : List ℕ) → k < 3 →
+    HasNumbers limits k before → Runs false (g ∷ gap) false → IsOpen limits (before ++ (g ∷ gap))
+open-gap limits k before g gap few begins runs = record {
   numbers = k;
   few = few;
   before = before;
-  gap = gap;
+  gap = g ∷ gap;
   digits = [];
   begins = begins;
-  is_gap = is_gap;
+  is_gap = gap-of g gap runs;
   ascii = All-nil IsDigit;
-  whole = ap (λ (t : List ℕ). before ++ t) (sym (append-nil gap));
+  whole = ap (λ (t : List ℕ). before ++ t) (sym (append-nil (g ∷ gap)));
 }
 
-gap-more : (gap : List ℕ) (b : ℕ) → IsGap gap → is_white b ≡ true → IsGap (gap ++ (b ∷ []))
-gap-more gap b is_gap white = record {
-  some = omega (arith, is_gap.some, length-append gap (b ∷ []));
-  white = All-append IsWhite gap (b ∷ []) is_gap.white
-      (All-cons IsWhite b [] white (All-nil IsWhite));
-}
+open-comment : (limits : SizeLimits) (k : ℕ) (before gap : List ℕ) → k < 3 →
+    HasNumbers limits k before → Runs false gap true → IsCommented limits (before ++ gap)
+open-comment limits k before gap few begins runs =
+    let parts = parsed false true gap runs in
+    record {
+      numbers = k;
+      few = few;
+      before = before;
+      items = parts.items;
+      text = parts.unended.0;
+      begins = begins;
+      each = parts.each;
+      inside = parts.unended.2;
+      whole = ap (λ (t : List ℕ). before ++ t)
+          (parts.whole ∙ ap (λ (t : List ℕ). concat parts.items ++ t) parts.unended.1);
+    }
 
-white-told : (limits : SizeLimits) (k at : ℕ) (before gap bytes : List ℕ) (e : FrameFault) → k < 3 →
-    HasNumbers limits k before → IsGap gap → length (before ++ gap) ≡ at → at ≤ header_limit
-    → white_at at bytes ≡ Err e → HasFault limits ((before ++ gap) ++ bytes) e
-white-told limits k at before gap [] e few begins is_gap len room h =
-    open-ends limits (before ++ gap) at e
-    (open-gap limits k before gap few begins is_gap) len room h
-white-told limits k at before gap (b ∷ bytes) e few begins is_gap len room h =
+begun-gap : (limits : SizeLimits) (k : ℕ) (before : List ℕ) (g : ℕ) (gap : List ℕ) (s : Bool) →
+    k < 3 → HasNumbers limits k before → Runs false (g ∷ gap) s →
+    IsBegun limits (before ++ (g ∷ gap))
+begun-gap limits k before g gap false few begins runs =
+    inl (open-gap limits k before g gap few begins runs)
+begun-gap limits k before g gap true few begins runs =
+    inr (open-comment limits k before (g ∷ gap) few begins runs)
+
+gap-told : (limits : SizeLimits) (k at : ℕ) (before : List ℕ) (g : ℕ) (gap : List ℕ) (s : Bool)
+    (bytes : List ℕ) (e : FrameFault) → k < 3 →
+    HasNumbers limits k before → Runs false (g ∷ gap) s → length (before ++ (g ∷ gap)) ≡ at →
+    at ≤ header_limit
+    → gap_at s at bytes ≡ Err e → HasFault limits ((before ++ (g ∷ gap)) ++ bytes) e
+gap-told limits k at before g gap s [] e few begins runs len room h =
+    open-ends limits (before ++ (g ∷ gap)) at e
+    (begun-gap limits k before g gap s few begins runs) len room h
+gap-told limits k at before g gap s (b ∷ bytes) e few begins runs len room h =
+    let on : Read ℕ = gap_at (stays_open s b) (suc at) bytes in
     elim (chosen (nat_lt at header_limit)
-    (cond (is_white b) (white_at (suc at) bytes) (Ok (b, suc at, bytes))) (Err HeaderTooLong)
+    (cond (goes_on s b) on (Ok (b, suc at, bytes))) (Err HeaderTooLong)
     (Err e) h) [
       | inr late ↦
-          told limits ((before ++ gap) ++ (b ∷ bytes)) HeaderTooLong e
+          told limits ((before ++ (g ∷ gap)) ++ (b ∷ bytes)) HeaderTooLong e
           (fault-is HeaderTooLong e late.1)
-          (open-late limits (before ++ gap) (b ∷ bytes) at
-          (open-gap limits k before gap few begins is_gap) len room
+          (open-late limits (before ++ (g ∷ gap)) (b ∷ bytes) at
+          (begun-gap limits k before g gap s few begins runs) len room
           (ltb-false at header_limit late.0))
       | inl early ↦
           let lt : at < header_limit = ltb-true at header_limit early.0 in
-          elim (chosen (is_white b) (white_at (suc at) bytes) (Ok (b, suc at, bytes))
+          elim (chosen (goes_on s b) on (Ok (b, suc at, bytes))
           (Err e) early.1) [
             | inr other ↦ absurd (no-fault other.1)
             | inl more ↦
-                let longer : (before ++ (gap ++ (b ∷ []))) ++ bytes
-                ≡ (before ++ gap) ++ (b ∷ bytes) = simp append_assoc in
+                let longer : (before ++ (g ∷ (gap ++ (b ∷ [])))) ++ bytes
+                ≡ (before ++ (g ∷ gap)) ++ (b ∷ bytes) = simp append_assoc in
                 subst (λ (t : List ℕ). HasFault limits t e) longer
-                (white-told limits k (suc at) before (gap ++ (b ∷ [])) bytes e few begins
-                (gap-more gap b is_gap more.0)
+                (gap-told limits k (suc at) before g (gap ++ (b ∷ [])) (stays_open s b) bytes e few
+                begins (runs-more false s (g ∷ gap) b runs more.0)
                 (omega (
                   arith,
                   len,
-                  length-append before gap,
+                  length-append before (g ∷ gap),
                   length-append before
-                      (gap ++ (b ∷ [])),
+                      (g ∷ (gap ++ (b ∷ []))),
                   length-append gap (b ∷ []),
                 )) (omega (arith, lt)) more.1)
           ]
@@ -143,7 +168,7 @@ white-told limits k at before gap (b ∷ bytes) e few begins is_gap len room h =
 
 -- ---- digits
 
-open-digits : (limits : SizeLimits) (k : ℕ) (before gap digits : List ℕ) → k < 3 →
+abbrev open-digits : (limits : SizeLimits) (k : ℕ) (before gap digits : List ℕ) → k < 3 →
     HasNumbers limits k before → IsGap gap → All IsDigit digits →
     IsOpen limits (before ++ (gap ++ digits))
 open-digits limits k before gap digits few begins is_gap ascii = record {
@@ -158,32 +183,52 @@ open-digits limits k before gap digits few begins is_gap ascii = record {
   whole = refl;
 }
 
+-- in digits of a number the header ends in the maxval exactly where that is the number
+digits-last : (limits : SizeLimits) (k b : ℕ) (before gap digits : List ℕ) (few : k < 3)
+    (begins : HasNumbers limits k before) (is_gap : IsGap gap) (ascii : All IsDigit digits) →
+    0 < length digits → ends_number (eqb k 2) b ≡ false
+    → ends_number (in_maxval (open-digits limits k before gap digits few begins is_gap ascii)) b
+    ≡ false
+digits-last limits k b before gap digits few begins is_gap ascii some other =
+    rw (lt-ltb 0 (length digits) some, and-true (eqb k 2)) other
+  where
+    and-true : (x : Bool) → (x && true) ≡ x
+    and-true true = refl
+    and-true false = refl
+
 digits-told : (limits : SizeLimits) (k n at : ℕ) (before gap digits bytes : List ℕ)
     (e : FrameFault) → k < 3 → HasNumbers limits k before → IsGap gap → All IsDigit digits
-    → length (before ++ (gap ++ digits)) ≡ at → at ≤ header_limit → digits_at n at bytes ≡ Err e →
+    → 0 < length digits
+    → length (before ++ (gap ++ digits)) ≡ at → at ≤ header_limit →
+    digits_at (eqb k 2) n at bytes ≡ Err e →
     HasFault limits ((before ++ (gap ++ digits)) ++ bytes) e
-digits-told limits k n at before gap digits [] e few begins is_gap ascii len room h =
+digits-told limits k n at before gap digits [] e few begins is_gap ascii some len room h =
     open-ends limits (before ++ (gap ++ digits)) at e
-    (open-digits limits k before gap digits few begins is_gap ascii) len room h
-digits-told limits k n at before gap digits (b ∷ bytes) e few begins is_gap ascii len room h =
+    (inl (open-digits limits k before gap digits few begins is_gap ascii)) len room h
+digits-told limits k n at before gap digits (b ∷ bytes) e few begins is_gap ascii some len room h =
     let prefix : List ℕ = before ++ (gap ++ digits) in
-    let on : Read ℕ = digits_at (10 * n + (b - 48)) (suc at) bytes in
-    let inner : Read ℕ = cond (is_ascii_digit b) on (Err (BadHeader at)) in
+    let on : Read (ℕ × ℕ) = digits_at (eqb k 2) (10 * n + (b - 48)) (suc at) bytes in
+    let inner : Read (ℕ × ℕ) = cond (is_ascii_digit b) on (Err (BadHeader at)) in
     let so_far = open-digits limits k before gap digits few begins is_gap ascii in
-    elim (chosen (nat_lt at header_limit) (cond (is_white b) (Ok (n, suc at, bytes)) inner)
+    elim (chosen (nat_lt at header_limit)
+    (cond (ends_number (eqb k 2) b) (Ok ((n, b), suc at, bytes)) inner)
     (Err HeaderTooLong) (Err e) h) [
       | inr late ↦
           told limits (prefix ++ (b ∷ bytes)) HeaderTooLong e (fault-is HeaderTooLong e late.1)
-          (open-late limits prefix (b ∷ bytes) at so_far len room
+          (open-late limits prefix (b ∷ bytes) at (inl so_far) len room
           (ltb-false at header_limit late.0))
       | inl early ↦
           let lt : at < header_limit = ltb-true at header_limit early.0 in
-          elim (chosen (is_white b) (Ok (n, suc at, bytes)) inner (Err e) early.1) [
-            | inl white ↦ absurd (no-fault white.1)
+          elim (chosen (ends_number (eqb k 2) b) (Ok ((n, b), suc at, bytes)) inner
+          (Err e) early.1) [
+            | inl ends ↦ absurd (no-fault ends.1)
             | inr other ↦ elim (chosen (is_ascii_digit b) on (Err (BadHeader at)) (Err e) other.1) [
               | inr bad ↦ told limits (prefix ++ (b ∷ bytes)) (BadHeader at) e
                   (fault-is (BadHeader at) e bad.1)
-                  (open-bad limits prefix at b bytes so_far len lt other.0 bad.0)
+                  (open-bad limits prefix at b bytes
+                  (open-digits limits k before gap digits few begins is_gap ascii) len lt
+                  (digits-last limits k b before gap digits few begins is_gap ascii some other.0)
+                  bad.0)
               | inl more ↦
                   let longer : (before ++ (gap ++ (digits ++ (b ∷ [])))) ++ bytes
                   ≡ (before ++ (gap ++ digits)) ++ (b ∷ bytes) = simp append_assoc in
@@ -192,6 +237,7 @@ digits-told limits k n at before gap digits (b ∷ bytes) e few begins is_gap as
                   (digits ++ (b ∷ [])) bytes e few begins is_gap
                   (All-append IsDigit digits (b ∷ []) ascii
                   (All-cons IsDigit b [] more.0 (All-nil IsDigit)))
+                  (omega (arith, some, length-append digits (b ∷ [])))
                   (omega (
                     arith,
                     len,
@@ -211,70 +257,84 @@ digits-told limits k n at before gap digits (b ∷ bytes) e few begins is_gap as
 
 -- ---- numbers
 
--- what was read of a header: so many numbers, and a white space byte after them
-pub record Reached (limits : SizeLimits) (k : ℕ) (bytes : List ℕ) (at : ℕ)
+-- what was read of a header: so many numbers, and the first byte of a gap
+pub record Reached (limits : SizeLimits) (k : ℕ) (bytes : List ℕ) (begun at : ℕ)
     (rest : List ℕ) : Type 0 where
   pub before : List ℕ
-  pub end : ℕ
   pub begins : HasNumbers limits k before
-  pub white : is_white end ≡ true
-  pub whole : bytes ≡ before ++ (end ∷ rest)
+  pub gap : begins_gap begun ≡ true
+  pub whole : bytes ≡ before ++ (begun ∷ rest)
   pub place : at ≡ length before + 1
   pub room : at ≤ header_limit
 
-number-told : (limits : SizeLimits) (k at : ℕ) (bytes rest : List ℕ) (e : FrameFault) → k < 3 →
-    Reached limits k bytes at rest → number_at at rest ≡ Err e → HasFault limits bytes e
+number-told : (limits : SizeLimits) (k begun at : ℕ) (bytes rest : List ℕ) (e : FrameFault) →
+    k < 3 →
+    Reached limits k bytes begun at rest → number_at (eqb k 2) begun at rest ≡ Err e →
+    HasFault limits bytes e
 unfolding number_at
-number-told limits k at bytes rest e few here h =
-    elim (bind_err (white_at at rest) behind_white e h) [
+number-told limits k begun at bytes rest e few here h =
+    elim (bind_err (gap_at (eqb begun 35) at rest) (behind_gap (eqb k 2)) e h) [
       | inl stops ↦
-          let longer : (here.before ++ (here.end ∷ [])) ++ rest ≡ bytes =
-          append_assoc here.before (here.end ∷ []) rest ∙ sym here.whole in
+          let longer : (here.before ++ (begun ∷ [])) ++ rest ≡ bytes =
+          append_assoc here.before (begun ∷ []) rest ∙ sym here.whole in
           subst (λ (t : List ℕ). HasFault limits t e) longer
-          (white-told limits k at here.before (here.end ∷ []) rest e few here.begins
-          (gap-of here.end [] here.white (All-nil IsWhite))
-          (omega (arith, here.place, length-append here.before (here.end ∷ []))) here.room stops)
+          (gap-told limits k at here.before begun [] (eqb begun 35) rest e few here.begins
+          (here.gap, refl)
+          (omega (arith, here.place, length-append here.before (begun ∷ []))) here.room stops)
       | inr goes ↦
           let first = goes.0 in
-          let white = white-found at rest first goes.1 in
-          let is_gap = gap-of here.end white.gap here.white white.white in
-          let len = length-append here.before (here.end ∷ white.gap) in
-          elim (chosen (is_ascii_digit first.0) (digits_at (first.0 - 48) first.1 first.2)
+          let found = gap-found (eqb begun 35) at rest first goes.1 in
+          let runs : Runs false (begun ∷ found.gap) false = (here.gap, found.runs) in
+          let len = length-append here.before (begun ∷ found.gap) in
+          elim (chosen (is_ascii_digit first.0)
+          (digits_at (eqb k 2) (first.0 - 48) first.1 first.2)
           (Err (BadHeader (first.1 - 1))) (Err e) goes.2) [
             | inl digit ↦
-                let longer : (here.before ++ ((here.end ∷ white.gap) ++ (first.0 ∷ []))) ++ first.2
+                let longer : (here.before ++ ((begun ∷ found.gap) ++ (first.0 ∷ []))) ++ first.2
                 ≡ bytes =
                 simp append_assoc (sym (here.whole
-                ∙ ap (λ (t : List ℕ). here.before ++ (here.end ∷ t)) white.parts)) in
+                ∙ ap (λ (t : List ℕ). here.before ++ (begun ∷ t)) found.parts)) in
                 subst (λ (t : List ℕ). HasFault limits t e) longer
-                (digits-told limits k (first.0 - 48) first.1 here.before (here.end ∷ white.gap)
-                (first.0 ∷ []) first.2 e few here.begins is_gap
-                (All-cons IsDigit first.0 [] digit.0 (All-nil IsDigit))
+                (digits-told limits k (first.0 - 48) first.1 here.before (begun ∷ found.gap)
+                (first.0 ∷ []) first.2 e few here.begins (gap-of begun found.gap runs)
+                (All-cons IsDigit first.0 [] digit.0 (All-nil IsDigit)) (omega arith)
                 (omega (
                   arith,
                   here.place,
-                  white.place,
+                  found.place,
                   length-append here.before
-                      ((here.end ∷ white.gap) ++ (first.0 ∷ [])),
-                  length-append (here.end ∷ white.gap)
+                      ((begun ∷ found.gap) ++ (first.0 ∷ [])),
+                  length-append (begun ∷ found.gap)
                       (first.0 ∷ []),
-                )) white.room digit.1)
+                )) found.room digit.1)
             | inr bad ↦
-                let longer : (here.before ++ (here.end ∷ white.gap)) ++ (first.0 ∷ first.2)
+                let longer : (here.before ++ (begun ∷ found.gap)) ++ (first.0 ∷ first.2)
                 ≡ bytes =
-                append_assoc here.before (here.end ∷ white.gap) (first.0 ∷ first.2)
+                append_assoc here.before (begun ∷ found.gap) (first.0 ∷ first.2)
                 ∙ sym (here.whole ∙ ap (λ (t : List ℕ). here.before
-                ++ (here.end ∷ t)) white.parts) in
+                ++ (begun ∷ t)) found.parts) in
                 subst (λ (t : List ℕ). HasFault limits t e) longer
                 (told limits _ (BadHeader (first.1 - 1)) e
                 (fault-is (BadHeader (first.1 - 1)) e bad.1)
-                (open-bad limits (here.before ++ (here.end ∷ white.gap))
-                (first.1 - 1) first.0 first.2 (open-gap limits k here.before
-                (here.end ∷ white.gap) few here.begins is_gap)
-                (omega (arith, here.place, white.place, len))
-                (omega (arith, white.room, white.place)) white.other bad.0))
+                (open-bad limits (here.before ++ (begun ∷ found.gap))
+                (first.1 - 1) first.0 first.2 (open-gap limits k here.before begun found.gap
+                few here.begins runs)
+                (omega (arith, here.place, found.place, len))
+                (omega (arith, found.room, found.place))
+                (gap-last limits k first.0 here.before begun found.gap few here.begins runs
+                found.other) bad.0))
           ]
     ]
+  where
+    and-false : (x : Bool) → (x && false) ≡ false
+    and-false true = refl
+    and-false false = refl
+
+    gap-last : (limits : SizeLimits) (k b : ℕ) (before : List ℕ) (g : ℕ) (gap : List ℕ)
+        (few : k < 3) (begins : HasNumbers limits k before) (runs : Runs false (g ∷ gap) false) →
+        begins_gap b ≡ false →
+        ends_number (in_maxval (open-gap limits k before g gap few begins runs)) b ≡ false
+    gap-last limits k b before g gap few begins runs other = rw (and-false (eqb k 2)) other
 
 out-of-range : (limits : SizeLimits) (k : ℕ) (bytes : List ℕ) → k < 3 →
     IsOutOfRange limits k bytes → HasFault limits bytes (range_fault k)
@@ -303,7 +363,7 @@ ranges-maxval limits = (
 
 abbrev pub judge : {A : Type 0} → ℕ → (Choice → ℕ → Result A FrameFault) → Choice →
     Result A FrameFault
-judge k next read = or_fault (range_fault k) read.0 >>= next read
+judge k next read = or_fault (range_fault k) read.0.0 >>= next read
 
 whole-number : (before : List ℕ) (end : ℕ) (gap digits : List ℕ) (behind : ℕ)
     (left bytes rest : List ℕ) → bytes ≡ before ++ (end ∷ rest) →
@@ -317,25 +377,27 @@ pub record NumberBehind (limits : SizeLimits) (k : ℕ) (bytes : List ℕ)
     (next : Choice → ℕ → Result Sizes FrameFault) (e : FrameFault) : Type 0 where
   pub read : Choice
   pub n : ℕ
-  pub on : Reached limits (suc k) bytes read.1 read.2
+  pub on : (begins_gap read.0.1 ≡ true) → Reached limits (suc k) bytes read.0.1 read.1 read.2
+  pub ends : ends_number (eqb k 2) read.0.1 ≡ true
   pub rest : next read n ≡ Err e
 
-number-out : (limits : SizeLimits) (k at : ℕ) (bytes rest : List ℕ) (x : Point) →
-    Reached limits k bytes at rest → NumberRead at rest x → (IsInRange limits k x.0 → ⊥) →
+number-out : (limits : SizeLimits) (k begun at : ℕ) (bytes rest : List ℕ) (x : Number) →
+    Reached limits k bytes begun at rest → NumberRead (eqb k 2) begun at rest x →
+    (IsInRange limits k x.0.0 → ⊥) →
     IsOutOfRange limits k bytes
-number-out limits k at bytes rest x here number out = (
-  here.before ++ ((here.end ∷ number.gap) ++ number.digits),
-  number.end,
+number-out limits k begun at bytes rest x here number out = (
+  here.before ++ ((begun ∷ number.gap) ++ number.digits),
+  x.0.1,
   x.2,
-  x.0,
-  whole-number here.before here.end number.gap number.digits number.end x.2 bytes rest here.whole
+  x.0.0,
+  whole-number here.before begun number.gap number.digits x.0.1 x.2 bytes rest here.whole
       number.parts,
   record {
     before = here.before;
-    gap = here.end ∷ number.gap;
+    gap = begun ∷ number.gap;
     digits = number.digits;
     begins = here.begins;
-    is_gap = gap-of here.end number.gap here.white number.white;
+    is_gap = gap-of begun number.gap (here.gap, number.runs);
     number = number.numeral;
     whole = refl;
   },
@@ -347,97 +409,91 @@ number-out limits k at bytes rest x here number out = (
     number.place,
     number.room,
     length-append here.before
-        ((here.end ∷ number.gap) ++ number.digits),
+        ((begun ∷ number.gap) ++ number.digits),
     length-append
-        (here.end ∷ number.gap) number.digits,
+        (begun ∷ number.gap) number.digits,
   ),
 )
 
 lt-not : {a b : ℕ} → a < b → b ≤ a → ⊥
 lt-not lt le = omega (arith, lt, le)
 
-read-on : (limits : SizeLimits) (k low high at : ℕ) (bytes rest : List ℕ)
-    (next : Choice → ℕ → Result Sizes FrameFault) (e : FrameFault) (x : Point) (a b : Bool) →
-    k < 3 → Reached limits k bytes at rest → Ranges limits k low high
-    → NumberRead at rest x → nat_le low x.0 ≡ a → nat_le x.0 high ≡ b →
-    judge k next (cond (a && b) (Some x.0) None, x.1, x.2) ≡ Err e →
+read-on : (limits : SizeLimits) (k low high begun at : ℕ) (bytes rest : List ℕ)
+    (next : Choice → ℕ → Result Sizes FrameFault) (e : FrameFault) (x : Number) (a b : Bool) →
+    k < 3 → Reached limits k bytes begun at rest → Ranges limits k low high
+    → NumberRead (eqb k 2) begun at rest x → nat_le low x.0.0 ≡ a → nat_le x.0.0 high ≡ b →
+    judge k next ((cond (a && b) (Some x.0.0) None, x.0.1), x.1, x.2) ≡ Err e →
     HasFault limits bytes e ⊎ NumberBehind limits k bytes next e
-read-on limits k low high at bytes rest next e x true true few here ranges number above below h =
+read-on limits k low high begun at bytes rest next e x true true few here ranges number above below
+    h =
     inr (record {
-      read = (Some x.0, x.1, x.2);
-      n = x.0;
-      on = record {
-        before = here.before ++ ((here.end ∷ number.gap) ++ number.digits);
-        end = number.end;
+      read = ((Some x.0.0, x.0.1), x.1, x.2);
+      n = x.0.0;
+      on = λ gap. record {
+        before = here.before ++ ((begun ∷ number.gap) ++ number.digits);
         begins = (
-          x.0,
+          x.0.0,
           record {
             before = here.before;
-            gap = here.end ∷ number.gap;
+            gap = begun ∷ number.gap;
             digits = number.digits;
             begins = here.begins;
-            is_gap = gap-of here.end number.gap here.white number.white;
+            is_gap = gap-of begun number.gap (here.gap, number.runs);
             number = number.numeral;
             whole = refl;
           },
-          ranges.0 x.0 (leb-true low x.0 above) (leb-true x.0 high below),
+          ranges.0 x.0.0 (leb-true low x.0.0 above) (leb-true x.0.0 high below),
         );
-        white = number.ends;
-        whole = whole-number here.before here.end number.gap number.digits number.end x.2 bytes rest
+        gap = gap;
+        whole = whole-number here.before begun number.gap number.digits x.0.1 x.2 bytes rest
             here.whole number.parts;
         place = omega (
           arith,
           here.place,
           number.place,
           length-append here.before
-              ((here.end ∷ number.gap) ++ number.digits),
+              ((begun ∷ number.gap) ++ number.digits),
           length-append
-              (here.end ∷ number.gap) number.digits,
+              (begun ∷ number.gap) number.digits,
         );
         room = number.room;
       };
+      ends = number.ends;
       rest = h;
     })
-read-on limits k low high at bytes rest next e x true false few here ranges number above below h =
+read-on limits k low high begun at bytes rest next e x true false few here ranges number above below
+    h =
     inl (told limits bytes (range_fault k) e (fault-is (range_fault k) e h)
     (out-of-range limits k bytes few
-    (number-out limits k at bytes rest x here number
-    (λ is. lt-not (leb-false x.0 high below) (ranges.1 x.0 is).1))))
-read-on limits k low high at bytes rest next e x false b few here ranges number above below h =
+    (number-out limits k begun at bytes rest x here number
+    (λ is. lt-not (leb-false x.0.0 high below) (ranges.1 x.0.0 is).1))))
+read-on limits k low high begun at bytes rest next e x false b few here ranges number above below
+    h =
     inl (told limits bytes (range_fault k) e (fault-is (range_fault k) e h)
     (out-of-range limits k bytes few
-    (number-out limits k at bytes rest x here number
-    (λ is. lt-not (leb-false low x.0 above) (ranges.1 x.0 is).0))))
+    (number-out limits k begun at bytes rest x here number
+    (λ is. lt-not (leb-false low x.0.0 above) (ranges.1 x.0.0 is).0))))
 
-ranged-told : (limits : SizeLimits) (k low high at : ℕ) (bytes rest : List ℕ)
+ranged-told : (limits : SizeLimits) (k low high begun at : ℕ) (bytes rest : List ℕ)
     (next : Choice → ℕ → Result Sizes FrameFault) (e : FrameFault) → k < 3 →
-    Reached limits k bytes at rest → Ranges limits k low high
-    → (ranged_at low high at rest >>= judge k next) ≡ Err e →
+    Reached limits k bytes begun at rest → Ranges limits k low high
+    → (ranged_at (eqb k 2) low high begun at rest >>= judge k next) ≡ Err e →
     HasFault limits bytes e ⊎ NumberBehind limits k bytes next e
 unfolding ranged_at
-ranged-told limits k low high at bytes rest next e few here ranges h =
-    elim (bind_err (ranged_at low high at rest) (judge k next) e h) [
-      | inl stops ↦ elim (bind_err (number_at at rest) (judged low high) e stops) [
-        | inl number ↦ inl (number-told limits k at bytes rest e few here number)
+ranged-told limits k low high begun at bytes rest next e few here ranges h =
+    let last : Bool = eqb k 2 in
+    elim (bind_err (ranged_at last low high begun at rest) (judge k next) e h) [
+      | inl stops ↦ elim (bind_err (number_at last begun at rest) (judged low high) e stops) [
+        | inl number ↦ inl (number-told limits k begun at bytes rest e few here number)
         | inr never ↦ absurd (no-fault never.2)
       ]
       | inr goes ↦
-          let number = bind_ok (number_at at rest) (judged low high) goes.0 goes.1 in
+          let number = bind_ok (number_at last begun at rest) (judged low high) goes.0 goes.1 in
           let x = number.0 in
-          let same : (let p : Choice = (
-            cond (nat_le low x.0 && nat_le x.0 high)
-                (Some x.0) None,
-            x.1,
-            x.2,
-          ) in p) ≡ goes.0 =
-          value-is (
-            cond (nat_le low x.0 && nat_le x.0 high)
-                (Some x.0) None,
-            x.1,
-            x.2,
-          ) goes.0 number.2 in
-          read-on limits k low high at bytes rest next e x (nat_le low x.0)
-          (nat_le x.0 high) few here ranges (number-found at rest x number.1) refl refl
+          let same : choice_of low high x ≡ goes.0 =
+          value-is (choice_of low high x) goes.0 number.2 in
+          read-on limits k low high begun at bytes rest next e x (nat_le low x.0.0)
+          (nat_le x.0.0 high) few here ranges (number-found last begun at rest x number.1) refl refl
           (subst (λ (r : Choice). judge k next r ≡ Err e) (sym same) goes.2)
     ]
 
@@ -470,22 +526,21 @@ magic-told limits (p ∷ six ∷ bytes) e h =
     behind limits [] e h = told limits (80 ∷ 54 ∷ []) (Truncated 2) e (fault-is (Truncated 2) e h)
         (refl, inr (inr (inl refl)))
     behind limits (gap ∷ bytes) e h =
-        elim (chosen (is_white gap) (Ok (tt, 3, bytes)) (Err (BadHeader 2)) (Err e) h) [
-          | inl white ↦ absurd (no-fault white.1)
+        elim (chosen (begins_gap gap) (Ok (gap, 3, bytes)) (Err (BadHeader 2)) (Err e) h) [
+          | inl begins ↦ absurd (no-fault begins.1)
           | inr bad ↦ told limits (80 ∷ 54 ∷ gap ∷ bytes) (BadHeader 2) e
               (fault-is (BadHeader 2) e bad.1)
-              (80 ∷ 54 ∷ [], gap, bytes, refl, refl, omega arith, (bad.0, inl refl))
+              (80 ∷ 54 ∷ [], gap, bytes, refl, refl, omega arith, inl (refl, bad.0))
         ]
 
-reached-magic : (limits : SizeLimits) (bytes : List ℕ) (read : Mark) → magic_at 0 bytes ≡ Ok read →
-    Reached limits 0 bytes read.1 read.2
+reached-magic : (limits : SizeLimits) (bytes : List ℕ) (read : Point) → magic_at 0 bytes ≡ Ok read →
+    Reached limits 0 bytes read.0 read.1 read.2
 reached-magic limits bytes read e =
     let magic = magic-found bytes read e in
     record {
       before = 80 ∷ 54 ∷ [];
-      end = magic.gap;
       begins = refl;
-      white = magic.white;
+      gap = magic.begins;
       whole = magic.parts;
       place = omega (arith, magic.place);
       room = omega (arith, magic.place);
@@ -497,16 +552,17 @@ unfolding header_at
 header-told limits bytes e h =
     elim (bind_err (magic_at 0 bytes) (step1 limits) e h) [
       | inl stops ↦ magic-told limits bytes e stops
-      | inr magic ↦ elim (ranged-told limits 0 1 limits.width magic.0.1 bytes magic.0.2
+      | inr magic ↦ elim (ranged-told limits 0 1 limits.width magic.0.0 magic.0.1 bytes magic.0.2
           (step3 limits) e (omega arith) (reached-magic limits bytes magic.0 magic.1)
           (ranges-width limits) magic.2) [
             | inl stops ↦ stops
-            | inr width ↦ elim (ranged-told limits 1 1 limits.height width.read.1 bytes width.read.2
-                (step5 width.n) e (omega arith) width.on (ranges-height limits) width.rest) [
+            | inr width ↦ elim (ranged-told limits 1 1 limits.height width.read.0.1 width.read.1
+                bytes width.read.2 (step5 width.n) e (omega arith) (width.on width.ends)
+                (ranges-height limits) width.rest) [
                   | inl stops ↦ stops
-                  | inr height ↦ elim (ranged-told limits 2 4095 4095 height.read.1 bytes
-                      height.read.2
-                      (step7 width.n height.n) e (omega arith) height.on
+                  | inr height ↦ elim (ranged-told limits 2 4095 4095 height.read.0.1
+                      height.read.1 bytes height.read.2
+                      (step7 width.n height.n) e (omega arith) (height.on height.ends)
                       (ranges-maxval limits) height.rest) [
                         | inl stops ↦ stops
                         | inr maxval ↦ absurd (no-fault maxval.rest)

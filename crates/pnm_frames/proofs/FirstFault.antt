@@ -14,14 +14,13 @@ use Rattle.pnm_frames.specs.declared.fault.FrameFault.TheVariants.{HeightOutOfRa
 use Rattle.pnm_frames.specs.declared.fault.FrameFault.TheVariants.{Truncated, TrailingBytes}
 use Rattle.pnm_frames.specs.Fault.{◌>>=◌}
 use Rattle.pnm_frames.specs.FirstFault.{Stands, Foretells}
-use Rattle.pnm_frames.specs.Grammar.{is_white, header_limit}
+use Rattle.pnm_frames.specs.Grammar.{begins_gap, ends_number, header_limit}
 use Rattle.pnm_frames.specs.Picture.{Picture}
-use Rattle.pnm_frames.specs.Reading.{Read, byte_at, magic_at, white_at, digits_at, number_at}
-use Rattle.pnm_frames.specs.Reading.{ranged_at, or_fault, header_at, samples_at, plane_of, ended}
-use Rattle.pnm_frames.specs.Reading.{frame_of}
-use Rattle.pnm_frames.proofs.Grammar.{Sizes, behind_white, judged, step1, step2, step3, step4, step5}
+use Rattle.pnm_frames.specs.Reading.{Read, byte_at, magic_at, goes_on, stays_open, gap_at, digits_at}
+use Rattle.pnm_frames.specs.Reading.{number_at, ranged_at, or_fault, header_at, samples_at, plane_of}
+use Rattle.pnm_frames.specs.Reading.{ended, frame_of}
+use Rattle.pnm_frames.proofs.Grammar.{Sizes, behind_gap, judged, step1, step2, step3, step4, step5}
 use Rattle.pnm_frames.proofs.Grammar.{step6, step7}
-use Rattle.pnm_frames.proofs.Files.{empty}
 
 stands-on : {X Y : Type 0} (e : FrameFault) (whole : ℕ) (l : Result X FrameFault)
     (f : X → Result Y FrameFault) → Stands e whole l → Stands e whole (l >>= f)
@@ -80,70 +79,83 @@ goes-byte whole at (b ∷ bytes) more len =
     goes-choice whole more (nat_lt at header_limit) (Ok (b, suc at, bytes)) (Err HeaderTooLong)
     (Ok (b, suc at, bytes ++ more)) (Err HeaderTooLong) (refl, omega (arith, len)) refl
 
-late-white : (at : ℕ) (more : List ℕ) → nat_lt at header_limit ≡ false →
-    white_at at more ≡ Err HeaderTooLong
-late-white at [] late = rw late refl
-late-white at (b ∷ more) late = rw late refl
+late-gap : (commented : Bool) (at : ℕ) (more : List ℕ) → nat_lt at header_limit ≡ false →
+    gap_at commented at more ≡ Err HeaderTooLong
+late-gap commented at [] late = rw late refl
+late-gap commented at (b ∷ more) late = rw late refl
 
-goes-white : (whole at : ℕ) (bytes more : List ℕ) → at + length bytes ≡ whole →
-    Goes whole more (white_at at bytes) (white_at at (bytes ++ more))
-goes-white whole at [] more len =
-    goes-end whole at more (nat_lt at header_limit) (white_at at more) len (late-white at more)
-goes-white whole at (b ∷ bytes) more len =
-    let on = goes-white whole (suc at) bytes more (omega (arith, len)) in
+goes-gap : (whole : ℕ) (commented : Bool) (at : ℕ) (bytes more : List ℕ) →
+    at + length bytes ≡ whole →
+    Goes whole more (gap_at commented at bytes) (gap_at commented at (bytes ++ more))
+goes-gap whole commented at [] more len =
+    goes-end whole at more (nat_lt at header_limit) (gap_at commented at more) len
+    (late-gap commented at more)
+goes-gap whole commented at (b ∷ bytes) more len =
+    let still : Bool = stays_open commented b in
+    let on = goes-gap whole still (suc at) bytes more (omega (arith, len)) in
     goes-choice whole more (nat_lt at header_limit)
-    (cond (is_white b) (white_at (suc at) bytes) (Ok (b, suc at, bytes))) (Err HeaderTooLong)
-    (cond (is_white b) (white_at (suc at) (bytes ++ more)) (Ok (b, suc at, bytes ++ more)))
+    (cond (goes_on commented b) (gap_at still (suc at) bytes) (Ok (b, suc at, bytes)))
     (Err HeaderTooLong)
-    (goes-choice whole more (is_white b) (white_at (suc at) bytes) (Ok (b, suc at, bytes))
-    (white_at (suc at) (bytes ++ more)) (Ok (b, suc at, bytes ++ more)) on
+    (cond (goes_on commented b) (gap_at still (suc at) (bytes ++ more))
+    (Ok (b, suc at, bytes ++ more)))
+    (Err HeaderTooLong)
+    (goes-choice whole more (goes_on commented b) (gap_at still (suc at) bytes)
+    (Ok (b, suc at, bytes))
+    (gap_at still (suc at) (bytes ++ more)) (Ok (b, suc at, bytes ++ more)) on
     (refl, omega (arith, len)))
     refl
 
-late-digits : (n at : ℕ) (more : List ℕ) → nat_lt at header_limit ≡ false →
-    digits_at n at more ≡ Err HeaderTooLong
-late-digits n at [] late = rw late refl
-late-digits n at (b ∷ more) late = rw late refl
+late-digits : (last : Bool) (n at : ℕ) (more : List ℕ) → nat_lt at header_limit ≡ false →
+    digits_at last n at more ≡ Err HeaderTooLong
+late-digits last n at [] late = rw late refl
+late-digits last n at (b ∷ more) late = rw late refl
 
-goes-digits : (whole n at : ℕ) (bytes more : List ℕ) → at + length bytes ≡ whole →
-    Goes whole more (digits_at n at bytes) (digits_at n at (bytes ++ more))
-goes-digits whole n at [] more len =
-    goes-end whole at more (nat_lt at header_limit) (digits_at n at more) len
-    (late-digits n at more)
-goes-digits whole n at (b ∷ bytes) more len =
-    let on = goes-digits whole (10 * n + (b - 48)) (suc at) bytes more (omega (arith, len)) in
-    let number = digits_at (10 * n + (b - 48)) (suc at) in
+goes-digits : (whole : ℕ) (last : Bool) (n at : ℕ) (bytes more : List ℕ) →
+    at + length bytes ≡ whole →
+    Goes whole more (digits_at last n at bytes) (digits_at last n at (bytes ++ more))
+goes-digits whole last n at [] more len =
+    goes-end whole at more (nat_lt at header_limit) (digits_at last n at more) len
+    (late-digits last n at more)
+goes-digits whole last n at (b ∷ bytes) more len =
+    let on = goes-digits whole last
+    (10 * n + (b - 48)) (suc at) bytes more (omega (arith, len)) in
+    let number = digits_at last (10 * n + (b - 48)) (suc at) in
     let inner = goes-choice whole more (is_ascii_digit b) (number bytes) (Err (BadHeader at))
     (number (bytes ++ more)) (Err (BadHeader at)) on refl in
     goes-choice whole more (nat_lt at header_limit)
-    (cond (is_white b) (Ok (n, suc at, bytes))
+    (cond (ends_number last b) (Ok ((n, b), suc at, bytes))
     (cond (is_ascii_digit b) (number bytes) (Err (BadHeader at)))) (Err HeaderTooLong)
-    (cond (is_white b) (Ok (n, suc at, bytes ++ more))
+    (cond (ends_number last b) (Ok ((n, b), suc at, bytes ++ more))
     (cond (is_ascii_digit b) (number (bytes ++ more)) (Err (BadHeader at)))) (Err HeaderTooLong)
-    (goes-choice whole more (is_white b) (Ok (n, suc at, bytes))
+    (goes-choice whole more (ends_number last b) (Ok ((n, b), suc at, bytes))
     (cond (is_ascii_digit b) (number bytes) (Err (BadHeader at)))
-    (Ok (n, suc at, bytes ++ more))
+    (Ok ((n, b), suc at, bytes ++ more))
     (cond (is_ascii_digit b) (number (bytes ++ more)) (Err (BadHeader at)))
     (refl, omega (arith, len)) inner)
     refl
 
-goes-number : (whole at : ℕ) (bytes more : List ℕ) → at + length bytes ≡ whole →
-    Goes whole more (number_at at bytes) (number_at at (bytes ++ more))
+goes-number : (whole : ℕ) (last : Bool) (begun at : ℕ) (bytes more : List ℕ) →
+    at + length bytes ≡ whole →
+    Goes whole more (number_at last begun at bytes) (number_at last begun at (bytes ++ more))
 unfolding number_at
-goes-number whole at bytes more len =
-    goes-then whole more (white_at at bytes) (white_at at (bytes ++ more)) behind_white
-    (goes-white whole at bytes more len)
+goes-number whole last begun at bytes more len =
+    goes-then whole more (gap_at (eqb begun 35) at bytes)
+    (gap_at (eqb begun 35) at (bytes ++ more)) (behind_gap last)
+    (goes-gap whole (eqb begun 35) at bytes more len)
     (λ first place. goes-choice whole more (is_ascii_digit first.0)
-    (digits_at (first.0 - 48) first.1 first.2) (Err (BadHeader (first.1 - 1)))
-    (digits_at (first.0 - 48) first.1 (first.2 ++ more)) (Err (BadHeader (first.1 - 1)))
-    (goes-digits whole (first.0 - 48) first.1 first.2 more place) refl)
+    (digits_at last (first.0 - 48) first.1 first.2) (Err (BadHeader (first.1 - 1)))
+    (digits_at last (first.0 - 48) first.1 (first.2 ++ more)) (Err (BadHeader (first.1 - 1)))
+    (goes-digits whole last (first.0 - 48) first.1 first.2 more place) refl)
 
-goes-ranged : (whole low high at : ℕ) (bytes more : List ℕ) → at + length bytes ≡ whole →
-    Goes whole more (ranged_at low high at bytes) (ranged_at low high at (bytes ++ more))
+goes-ranged : (whole : ℕ) (last : Bool) (low high begun at : ℕ) (bytes more : List ℕ) →
+    at + length bytes ≡ whole →
+    Goes whole more (ranged_at last low high begun at bytes)
+    (ranged_at last low high begun at (bytes ++ more))
 unfolding ranged_at
-goes-ranged whole low high at bytes more len =
-    goes-then whole more (number_at at bytes) (number_at at (bytes ++ more)) (judged low high)
-    (goes-number whole at bytes more len) (λ number place. (refl, place))
+goes-ranged whole last low high begun at bytes more len =
+    goes-then whole more (number_at last begun at bytes) (number_at last begun at (bytes ++ more))
+    (judged low high)
+    (goes-number whole last begun at bytes more len) (λ number place. (refl, place))
 
 goes-or : {A : Type 0} (whole : ℕ) (more : List ℕ) (fault : FrameFault) (o : Option ℕ)
     (f g : ℕ → Read A) → Goes {A = A} whole more (Err fault) (Err fault)
@@ -157,13 +169,13 @@ goes-or whole more fault (Some n) f g stands next = next n
 abbrev letter : ℕ → Point ℕ → Read ℕ
 letter wanted first = cond (eqb first.0 wanted) (byte_at first.1 first.2) (Err NotPpm)
 
-abbrev behind_six : Point ℕ → Point ℕ → Read (Unit {0})
-behind_six second gap = cond (is_white gap.0) (Ok (empty, gap.1, gap.2)) (Err (BadHeader second.1))
+abbrev behind_six : Point ℕ → Point ℕ → Read ℕ
+behind_six second gap = cond (begins_gap gap.0) (Ok (gap.0, gap.1, gap.2)) (Err (BadHeader second.1))
 
-abbrev behind_second : Point ℕ → Read (Unit {0})
+abbrev behind_second : Point ℕ → Read ℕ
 behind_second second = letter 54 second >>= behind_six second
 
-abbrev behind_first : Point ℕ → Read (Unit {0})
+abbrev behind_first : Point ℕ → Read ℕ
 behind_first first = letter 80 first >>= behind_second
 
 goes-letter : (whole wanted : ℕ) (more : List ℕ) (first : Point ℕ) →
@@ -186,8 +198,8 @@ goes-magic whole at bytes more len =
     (λ second there. goes-then whole more (letter 54 second)
     (letter 54 (second.0, second.1, second.2 ++ more)) (behind_six second)
     (goes-letter whole 54 more second there)
-    (λ gap place. goes-choice whole more (is_white gap.0) (Ok (empty, gap.1, gap.2))
-    (Err (BadHeader second.1)) (Ok (empty, gap.1, gap.2 ++ more)) (Err (BadHeader second.1))
+    (λ gap place. goes-choice whole more (begins_gap gap.0) (Ok (gap.0, gap.1, gap.2))
+    (Err (BadHeader second.1)) (Ok (gap.0, gap.1, gap.2 ++ more)) (Err (BadHeader second.1))
     (refl, place) refl)))
 
 -- ---- the header
@@ -195,33 +207,36 @@ goes-magic whole at bytes more len =
 abbrev longer : {A : Type 0} → List ℕ → Point A → Point A
 longer more read = (read.0, read.1, read.2 ++ more)
 
-goes-step6 : (whole w h : ℕ) (more : List ℕ) (maxval : Point (Option ℕ)) →
+goes-step6 : (whole w h : ℕ) (more : List ℕ) (maxval : Point (Option ℕ × ℕ)) →
     maxval.1 + length maxval.2 ≡ whole →
     Goes whole more (step6 w h maxval) (step6 w h (longer more maxval))
 goes-step6 whole w h more maxval place =
-    goes-or whole more WrongMaxval maxval.0 (step7 w h maxval) (step7 w h (longer more maxval)) refl
+    goes-or whole more WrongMaxval maxval.0.0 (step7 w h maxval) (step7 w h (longer more maxval))
+    refl
     (λ m. (refl, place))
 
-goes-step4 : (whole w : ℕ) (more : List ℕ) (height : Point (Option ℕ)) →
+goes-step4 : (whole w : ℕ) (more : List ℕ) (height : Point (Option ℕ × ℕ)) →
     height.1 + length height.2 ≡ whole →
     Goes whole more (step4 w height) (step4 w (longer more height))
 goes-step4 whole w more height place =
-    goes-or whole more HeightOutOfRange height.0 (step5 w height)
+    let begun : ℕ = height.0.1 in
+    goes-or whole more HeightOutOfRange height.0.0 (step5 w height)
     (step5 w (longer more height)) refl
-    (λ h. goes-then whole more (ranged_at 4095 4095 height.1 height.2)
-    (ranged_at 4095 4095 height.1 (height.2 ++ more)) (step6 w h)
-    (goes-ranged whole 4095 4095 height.1 height.2 more place)
+    (λ h. goes-then whole more (ranged_at true 4095 4095 begun height.1 height.2)
+    (ranged_at true 4095 4095 begun height.1 (height.2 ++ more)) (step6 w h)
+    (goes-ranged whole true 4095 4095 begun height.1 height.2 more place)
     (λ maxval here. goes-step6 whole w h more maxval here))
 
-goes-step2 : (limits : SizeLimits) (whole : ℕ) (more : List ℕ) (width : Point (Option ℕ)) →
+goes-step2 : (limits : SizeLimits) (whole : ℕ) (more : List ℕ) (width : Point (Option ℕ × ℕ)) →
     width.1 + length width.2 ≡ whole →
     Goes whole more (step2 limits width) (step2 limits (longer more width))
 goes-step2 limits whole more width place =
-    goes-or whole more WidthOutOfRange width.0 (step3 limits width)
+    let begun : ℕ = width.0.1 in
+    goes-or whole more WidthOutOfRange width.0.0 (step3 limits width)
     (step3 limits (longer more width)) refl
-    (λ w. goes-then whole more (ranged_at 1 limits.height width.1 width.2)
-    (ranged_at 1 limits.height width.1 (width.2 ++ more)) (step4 w)
-    (goes-ranged whole 1 limits.height width.1 width.2 more place)
+    (λ w. goes-then whole more (ranged_at false 1 limits.height begun width.1 width.2)
+    (ranged_at false 1 limits.height begun width.1 (width.2 ++ more)) (step4 w)
+    (goes-ranged whole false 1 limits.height begun width.1 width.2 more place)
     (λ height here. goes-step4 whole w more height here))
 
 goes-header : (limits : SizeLimits) (bytes more : List ℕ) →
@@ -231,9 +246,9 @@ goes-header limits bytes more =
     let whole : ℕ = length bytes in
     goes-then whole more (magic_at 0 bytes) (magic_at 0 (bytes ++ more)) (step1 limits)
     (goes-magic whole 0 bytes more (omega arith))
-    (λ magic here. goes-then whole more (ranged_at 1 limits.width magic.1 magic.2)
-    (ranged_at 1 limits.width magic.1 (magic.2 ++ more)) (step2 limits)
-    (goes-ranged whole 1 limits.width magic.1 magic.2 more here)
+    (λ magic here. goes-then whole more (ranged_at false 1 limits.width magic.0 magic.1 magic.2)
+    (ranged_at false 1 limits.width magic.0 magic.1 (magic.2 ++ more)) (step2 limits)
+    (goes-ranged whole false 1 limits.width magic.0 magic.1 magic.2 more here)
     (λ width place. goes-step2 limits whole more width place))
 
 -- ---- the samples

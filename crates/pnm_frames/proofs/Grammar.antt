@@ -5,7 +5,7 @@ use Rattle.std.proofs.Common.{Err, refl, ap, subst, ◌∙◌, inl, inr, append_
 use Rattle.std.proofs.Common.{length-append}
 use Rattle.std.specs.Prelude.{All, nat_lt, nat_le}
 use Rattle.std.specs.Char.{is_ascii_digit}
-use Rattle.std.proofs.lemmas.Bool.{and_parts, ltb-true, leb-true, eqb-true}
+use Rattle.std.proofs.lemmas.Bool.{and_parts, or_parts, ltb-true, leb-true, eqb-true}
 use Rattle.std.proofs.lemmas.Option.{cond_some}
 use Rattle.std.proofs.lemmas.List.{append-nil}
 use Rattle.std.proofs.lemmas.List.Elements.{All-cons, All-nil}
@@ -16,11 +16,12 @@ use Rattle.pnm_frames.specs.declared.fault.FrameFault.TheVariants.{WidthOutOfRan
 use Rattle.pnm_frames.specs.declared.fault.FrameFault.TheVariants.{HeightOutOfRange, WrongMaxval}
 use Rattle.pnm_frames.specs.Fault.{◌>>=◌}
 use Rattle.pnm_frames.specs.Picture.{Picture, IsWithin, raster}
-use Rattle.pnm_frames.specs.Grammar.{is_white, value_from, IsGap, IsNumeral, Parts, header}
+use Rattle.pnm_frames.specs.Grammar.{begins_gap, ends_number, value_from, IsNumeral, Parts, header}
 use Rattle.pnm_frames.specs.Grammar.{header_limit, IsHeader, Spells}
-use Rattle.pnm_frames.specs.Reading.{Read, byte_at, magic_at, white_at, digits_at, number_at}
-use Rattle.pnm_frames.specs.Reading.{ranged_at, or_fault, header_at, ended}
+use Rattle.pnm_frames.specs.Reading.{Read, byte_at, magic_at, goes_on, stays_open, gap_at, digits_at}
+use Rattle.pnm_frames.specs.Reading.{number_at, ranged_at, or_fault, header_at, ended}
 use Rattle.pnm_frames.proofs.Files.{empty}
+use Rattle.pnm_frames.proofs.Gaps.{Runs, gap-of}
 
 -- which way a choice went
 pub chosen : {A : Type 0} (b : Bool) (x y z : A) → cond b x y ≡ z →
@@ -50,42 +51,39 @@ pub bind_ok : {A B : Type 0} (r : Result A FrameFault) (f : A → Result B Frame
 bind_ok (Ok x) f y e = (x, refl, e)
 bind_ok (Err d) f y e = absurd cc
 
-abbrev pub IsWhite : ℕ → Type 0
-IsWhite b = is_white b ≡ true
-
 abbrev pub IsDigit : ℕ → Type 0
 IsDigit b = is_ascii_digit b ≡ true
 
 abbrev pub Point : Type 0
 Point = ℕ × ℕ × List ℕ
 
--- ---- white space
+-- ---- gaps
 
-pub record WhiteRead (at : ℕ) (bytes : List ℕ) (read : Point) : Type 0 where
+pub record GapRead (commented : Bool) (at : ℕ) (bytes : List ℕ) (read : Point) : Type 0 where
   pub gap : List ℕ
-  pub white : All IsWhite gap
+  pub runs : Runs commented gap false
   pub parts : bytes ≡ gap ++ (read.0 ∷ read.2)
   pub place : read.1 ≡ at + length gap + 1
   pub room : read.1 ≤ header_limit
-  pub other : is_white read.0 ≡ false
+  pub other : begins_gap read.0 ≡ false
 
-pub white-found : (at : ℕ) (bytes : List ℕ) (read : Point) → white_at at bytes ≡ Ok read →
-    WhiteRead at bytes read
-white-found at [] read e = absurd (neither (nat_lt at header_limit) _ _ read e)
-white-found at (x ∷ bytes) read e =
+pub gap-found : (commented : Bool) (at : ℕ) (bytes : List ℕ) (read : Point) →
+    gap_at commented at bytes ≡ Ok read → GapRead commented at bytes read
+gap-found commented at [] read e = absurd (neither (nat_lt at header_limit) _ _ read e)
+gap-found commented at (x ∷ bytes) read e =
+    let on : Read ℕ = gap_at (stays_open commented x) (suc at) bytes in
     elim (chosen (nat_lt at header_limit)
-    (cond (is_white x) (white_at (suc at) bytes) (Ok (x, suc at, bytes))) (Err HeaderTooLong)
+    (cond (goes_on commented x) on (Ok (x, suc at, bytes))) (Err HeaderTooLong)
     (Ok read) e) [
       | inr late ↦ absurd (no-value late.1)
       | inl early ↦
           let lt : at < header_limit = ltb-true at header_limit early.0 in
-          elim (chosen (is_white x) (white_at (suc at) bytes) (Ok (x, suc at, bytes))
-          (Ok read) early.1) [
+          elim (chosen (goes_on commented x) on (Ok (x, suc at, bytes)) (Ok read) early.1) [
             | inl more ↦
-                let rest = white-found (suc at) bytes read more.1 in
+                let rest = gap-found (stays_open commented x) (suc at) bytes read more.1 in
                 record {
                   gap = x ∷ rest.gap;
-                  white = All-cons IsWhite x rest.gap more.0 rest.white;
+                  runs = (more.0, rest.runs);
                   parts = ap (λ (t : List ℕ). x ∷ t) rest.parts;
                   place = omega (arith, rest.place);
                   room = rest.room;
@@ -94,49 +92,53 @@ white-found at (x ∷ bytes) read e =
             | inr last ↦
                 let same : (let p : Point = (x, suc at, bytes) in p) ≡ read =
                 value-is (x, suc at, bytes) read last.1 in
-                subst (λ (p : Point). WhiteRead at (x ∷ bytes) p) same (record {
+                let tests = or_parts commented (begins_gap x) last.0 in
+                subst (λ (p : Point). GapRead commented at (x ∷ bytes) p) same (record {
                   gap = [];
-                  white = All-nil IsWhite;
+                  runs = tests.0;
                   parts = refl;
                   place = omega arith;
                   room = omega arith;
-                  other = last.0;
+                  other = tests.1;
                 })
           ]
     ]
 
 -- ---- digits
 
-pub record DigitsRead (n at : ℕ) (bytes : List ℕ) (read : Point) : Type 0 where
+-- a number and the byte that ends it
+abbrev pub Number : Type 0
+Number = (ℕ × ℕ) × ℕ × List ℕ
+
+pub record DigitsRead (last : Bool) (n at : ℕ) (bytes : List ℕ) (read : Number) : Type 0 where
   pub digits : List ℕ
-  pub end : ℕ
   pub ascii : All IsDigit digits
-  pub ends : is_white end ≡ true
-  pub worth : value_from n digits ≡ read.0
-  pub parts : bytes ≡ digits ++ (end ∷ read.2)
+  pub ends : ends_number last read.0.1 ≡ true
+  pub worth : value_from n digits ≡ read.0.0
+  pub parts : bytes ≡ digits ++ (read.0.1 ∷ read.2)
   pub place : read.1 ≡ at + length digits + 1
   pub room : read.1 ≤ header_limit
 
-digits-found : (n at : ℕ) (bytes : List ℕ) (read : Point) → digits_at n at bytes ≡ Ok read →
-    DigitsRead n at bytes read
-digits-found n at [] read e = absurd (neither (nat_lt at header_limit) _ _ read e)
-digits-found n at (x ∷ bytes) read e =
-    let on : Read ℕ = digits_at (10 * n + (x - 48)) (suc at) bytes in
-    let inner : Read ℕ = cond (is_ascii_digit x) on (Err (BadHeader at)) in
-    elim (chosen (nat_lt at header_limit) (cond (is_white x) (Ok (n, suc at, bytes)) inner)
+digits-found : (last : Bool) (n at : ℕ) (bytes : List ℕ) (read : Number) →
+    digits_at last n at bytes ≡ Ok read → DigitsRead last n at bytes read
+digits-found last n at [] read e = absurd (neither (nat_lt at header_limit) _ _ read e)
+digits-found last n at (x ∷ bytes) read e =
+    let on : Read (ℕ × ℕ) = digits_at last (10 * n + (x - 48)) (suc at) bytes in
+    let inner : Read (ℕ × ℕ) = cond (is_ascii_digit x) on (Err (BadHeader at)) in
+    elim (chosen (nat_lt at header_limit)
+    (cond (ends_number last x) (Ok ((n, x), suc at, bytes)) inner)
     (Err HeaderTooLong) (Ok read) e) [
       | inr late ↦ absurd (no-value late.1)
       | inl early ↦
           let lt : at < header_limit = ltb-true at header_limit early.0 in
-          elim (chosen (is_white x) (Ok (n, suc at, bytes)) inner (Ok read) early.1) [
-            | inl last ↦
-                let same : (let p : Point = (n, suc at, bytes) in p) ≡ read =
-                value-is (n, suc at, bytes) read last.1 in
-                subst (λ (p : Point). DigitsRead n at (x ∷ bytes) p) same (record {
+          elim (chosen (ends_number last x) (Ok ((n, x), suc at, bytes)) inner (Ok read) early.1) [
+            | inl ends ↦
+                let same : (let p : Number = ((n, x), suc at, bytes) in p) ≡ read =
+                value-is ((n, x), suc at, bytes) read ends.1 in
+                subst (λ (p : Number). DigitsRead last n at (x ∷ bytes) p) same (record {
                   digits = [];
-                  end = x;
                   ascii = All-nil IsDigit;
-                  ends = last.0;
+                  ends = ends.0;
                   worth = refl;
                   parts = refl;
                   place = omega arith;
@@ -145,10 +147,10 @@ digits-found n at (x ∷ bytes) read e =
             | inr other ↦ elim (chosen (is_ascii_digit x) on (Err (BadHeader at))
                 (Ok read) other.1) [
                   | inl more ↦
-                      let rest = digits-found (10 * n + (x - 48)) (suc at) bytes read more.1 in
+                      let rest = digits-found last
+                      (10 * n + (x - 48)) (suc at) bytes read more.1 in
                       record {
                         digits = x ∷ rest.digits;
-                        end = rest.end;
                         ascii = All-cons IsDigit x rest.digits more.0 rest.ascii;
                         ends = rest.ends;
                         worth = rest.worth;
@@ -163,88 +165,89 @@ digits-found n at (x ∷ bytes) read e =
 
 -- ---- numbers
 
-pub record NumberRead (at : ℕ) (bytes : List ℕ) (read : Point) : Type 0 where
+pub record NumberRead (last : Bool) (begun at : ℕ) (bytes : List ℕ)
+    (read : Number) : Type 0 where
   pub gap : List ℕ
   pub digits : List ℕ
-  pub end : ℕ
-  pub white : All IsWhite gap
-  pub numeral : IsNumeral digits read.0
-  pub ends : is_white end ≡ true
-  pub parts : bytes ≡ gap ++ (digits ++ (end ∷ read.2))
+  pub runs : Runs (eqb begun 35) gap false
+  pub numeral : IsNumeral digits read.0.0
+  pub ends : ends_number last read.0.1 ≡ true
+  pub parts : bytes ≡ gap ++ (digits ++ (read.0.1 ∷ read.2))
   pub place : read.1 ≡ at + length gap + length digits + 1
   pub room : read.1 ≤ header_limit
 
-abbrev pub behind_white : Point → Read ℕ
-behind_white first = cond (is_ascii_digit first.0) (digits_at (first.0 - 48) first.1 first.2)
-    (Err (BadHeader (first.1 - 1)))
+abbrev pub behind_gap : Bool → Point → Read (ℕ × ℕ)
+behind_gap last first = cond (is_ascii_digit first.0)
+    (digits_at last (first.0 - 48) first.1 first.2) (Err (BadHeader (first.1 - 1)))
 
-pub number-found : (at : ℕ) (bytes : List ℕ) (read : Point) → number_at at bytes ≡ Ok read →
-    NumberRead at bytes read
+pub number-found : (last : Bool) (begun at : ℕ) (bytes : List ℕ) (read : Number) →
+    number_at last begun at bytes ≡ Ok read → NumberRead last begun at bytes read
 unfolding number_at
-number-found at bytes read e =
-    let prefix = bind_ok (white_at at bytes) behind_white read e in
+number-found last begun at bytes read e =
+    let prefix = bind_ok (gap_at (eqb begun 35) at bytes) (behind_gap last) read e in
     let first = prefix.0 in
-    let white = white-found at bytes first prefix.1 in
-    elim (chosen (is_ascii_digit first.0) (digits_at (first.0 - 48) first.1 first.2)
+    let found = gap-found (eqb begun 35) at bytes first prefix.1 in
+    elim (chosen (is_ascii_digit first.0) (digits_at last (first.0 - 48) first.1 first.2)
     (Err (BadHeader (first.1 - 1))) (Ok read) prefix.2) [
       | inr bad ↦ absurd (no-value bad.1)
       | inl good ↦
-          let rest = digits-found (first.0 - 48) first.1 first.2 read good.1 in
+          let rest = digits-found last (first.0 - 48) first.1 first.2 read good.1 in
           let from : 10 * 0 + (first.0 - 48) ≡ first.0 - 48 = omega arith in
           record {
-            gap = white.gap;
+            gap = found.gap;
             digits = first.0 ∷ rest.digits;
-            end = rest.end;
-            white = white.white;
+            runs = found.runs;
             numeral = record {
               some = omega arith;
               ascii = All-cons IsDigit first.0 rest.digits good.0 rest.ascii;
               worth = ap (λ (k : ℕ). value_from k rest.digits) from ∙ rest.worth;
             };
             ends = rest.ends;
-            parts = white.parts ∙ ap (λ (t : List ℕ). white.gap ++ (first.0 ∷ t)) rest.parts;
-            place = omega (arith, white.place, rest.place);
+            parts = found.parts ∙ ap (λ (t : List ℕ). found.gap ++ (first.0 ∷ t)) rest.parts;
+            place = omega (arith, found.place, rest.place);
             room = rest.room;
           }
     ]
 
 abbrev pub Choice : Type 0
-Choice = Option ℕ × ℕ × List ℕ
+Choice = (Option ℕ × ℕ) × ℕ × List ℕ
 
-abbrev pub judged : ℕ → ℕ → Point → Read (Option ℕ)
-judged low high number = Ok (
-  cond (nat_le low number.0 && nat_le number.0 high)
-      (Some number.0) None,
+abbrev pub choice_of : ℕ → ℕ → Number → Choice
+choice_of low high number = (
+  (
+    cond (nat_le low number.0.0 && nat_le number.0.0 high) (Some number.0.0) None,
+    number.0.1,
+  ),
   number.1,
   number.2,
 )
 
+abbrev pub judged : ℕ → ℕ → Number → Read (Option ℕ × ℕ)
+judged low high number = Ok (choice_of low high number)
+
 -- a number within the range
-ranged-found : (low high at : ℕ) (bytes : List ℕ) (n : ℕ) (read : Choice) →
-    ranged_at low high at bytes ≡ Ok read → read.0 ≡ Some n
-    → NumberRead at bytes (n, read.1, read.2) × (low ≤ n) × (n ≤ high)
+ranged-found : (last : Bool) (low high begun at : ℕ) (bytes : List ℕ) (n : ℕ) (read : Choice) →
+    ranged_at last low high begun at bytes ≡ Ok read → read.0.0 ≡ Some n
+    → NumberRead last begun at bytes ((n, read.0.1), read.1, read.2) × (low ≤ n) × (n ≤ high)
 unfolding ranged_at
-ranged-found low high at bytes n read e is =
-    let number = bind_ok (number_at at bytes) (judged low high) read e in
+ranged-found last low high begun at bytes n read e is =
+    let number = bind_ok (number_at last begun at bytes) (judged low high) read e in
     let x = number.0 in
-    let same : (let p : Choice = (
-      cond (nat_le low x.0 && nat_le x.0 high)
-          (Some x.0) None,
-      x.1,
-      x.2,
-    ) in p) ≡ read =
-    value-is (cond (nat_le low x.0 && nat_le x.0 high) (Some x.0) None, x.1, x.2) read number.2 in
-    let chose = cond_some (nat_le low x.0 && nat_le x.0 high) x.0 n
-    (ap (λ (p : Choice). p.0) same ∙ is) in
-    let tests = and_parts (nat_le low x.0) (nat_le x.0 high) chose.0 in
+    let same : choice_of low high x ≡ read =
+    value-is (choice_of low high x) read number.2 in
+    let chose = cond_some (nat_le low x.0.0 && nat_le x.0.0 high) x.0.0 n
+    (ap (λ (p : Choice). p.0.0) same ∙ is) in
+    let tests = and_parts (nat_le low x.0.0) (nat_le x.0.0 high) chose.0 in
+    let end : x.0.1 ≡ read.0.1 = ap (λ (p : Choice). p.0.1) same in
     let place : x.1 ≡ read.1 = ap (λ (p : Choice). p.1) same in
     let behind : x.2 ≡ read.2 = ap (λ (p : Choice). p.2) same in
-    let point : (let p : Point = (x.0, x.1, x.2) in p) ≡ (n, read.1, read.2) =
-    rw (chose.1, place, behind) refl in
-    let low_is : low ≤ n = rw chose.1 at (leb-true low x.0 tests.0) in
-    let high_is : n ≤ high = rw chose.1 at (leb-true x.0 high tests.1) in (
-      subst (λ (p : Point). NumberRead at bytes p) point
-          (number-found at bytes x number.1),
+    let point : (let p : Number = ((x.0.0, x.0.1), x.1, x.2) in p)
+    ≡ ((n, read.0.1), read.1, read.2) =
+    rw (chose.1, end, place, behind) refl in
+    let low_is : low ≤ n = rw chose.1 at (leb-true low x.0.0 tests.0) in
+    let high_is : n ≤ high = rw chose.1 at (leb-true x.0.0 high tests.1) in (
+      subst (λ (p : Number). NumberRead last begun at bytes p) point
+          (number-found last begun at bytes x number.1),
       low_is,
       high_is,
     )
@@ -281,25 +284,22 @@ letter-found wanted first read e =
           (eqb-true first.0 wanted right.0, rest.0, rest.1)
     ]
 
-abbrev pub Mark : Type 0
-Mark = Unit {0} × ℕ × List ℕ
+abbrev magic_end : Point → Point → Read ℕ
+magic_end second gap = cond (begins_gap gap.0) (Ok (gap.0, gap.1, gap.2)) (Err (BadHeader second.1))
 
-abbrev magic_end : Point → Point → Read (Unit {0})
-magic_end second gap = cond (is_white gap.0) (Ok (empty, gap.1, gap.2)) (Err (BadHeader second.1))
-
-abbrev behind_second : Point → Read (Unit {0})
+abbrev behind_second : Point → Read ℕ
 behind_second second = behind_first 54 second >>= magic_end second
 
-abbrev behind_letter : Point → Read (Unit {0})
+abbrev behind_letter : Point → Read ℕ
 behind_letter first = behind_first 80 first >>= behind_second
 
-pub record MagicRead (bytes : List ℕ) (read : Mark) : Type 0 where
-  pub gap : ℕ
-  pub white : is_white gap ≡ true
-  pub parts : bytes ≡ 80 ∷ 54 ∷ gap ∷ read.2
+pub record MagicRead (bytes : List ℕ) (read : Point) : Type 0 where
+  pub begins : begins_gap read.0 ≡ true
+  pub parts : bytes ≡ 80 ∷ 54 ∷ read.0 ∷ read.2
   pub place : read.1 ≡ 3
 
-pub magic-found : (bytes : List ℕ) (read : Mark) → magic_at 0 bytes ≡ Ok read → MagicRead bytes read
+pub magic-found : (bytes : List ℕ) (read : Point) → magic_at 0 bytes ≡ Ok read →
+    MagicRead bytes read
 unfolding magic_at
 magic-found bytes read e =
     let a = bind_ok (byte_at 0 bytes) behind_letter read e in
@@ -310,15 +310,14 @@ magic-found bytes read e =
     let gap = letter-found 54 b.0 c.0 c.1 in
     let whole : bytes ≡ 80 ∷ 54 ∷ c.0.0 ∷ c.0.2 =
     joined bytes a.0 b.0 c.0 p.0 six.0 six.1 gap.0 gap.1 in
-    elim (chosen (is_white c.0.0) (Ok (empty, c.0.1, c.0.2)) (Err (BadHeader b.0.1))
+    elim (chosen (begins_gap c.0.0) (Ok (c.0.0, c.0.1, c.0.2)) (Err (BadHeader b.0.1))
     (Ok read) c.2) [
       | inr other ↦ absurd (no-value other.1)
-      | inl white ↦
-          let same : (let m : Mark = (empty, c.0.1, c.0.2) in m) ≡ read =
-          value-is (empty, c.0.1, c.0.2) read white.1 in
-          subst (λ (m : Mark). MagicRead bytes m) same (record {
-            gap = c.0.0;
-            white = white.0;
+      | inl begins ↦
+          let same : (let m : Point = (c.0.0, c.0.1, c.0.2) in m) ≡ read =
+          value-is (c.0.0, c.0.1, c.0.2) read begins.1 in
+          subst (λ (m : Point). MagicRead bytes m) same (record {
+            begins = begins.0;
             parts = whole;
             place = omega (arith, p.1, six.2, gap.2);
           })
@@ -365,22 +364,22 @@ abbrev pub step7 : ℕ → ℕ → Choice → ℕ → Result Sizes FrameFault
 step7 w h maxval m = Ok ((w, h), maxval.1, maxval.2)
 
 abbrev pub step6 : ℕ → ℕ → Choice → Result Sizes FrameFault
-step6 w h maxval = or_fault WrongMaxval maxval.0 >>= step7 w h maxval
+step6 w h maxval = or_fault WrongMaxval maxval.0.0 >>= step7 w h maxval
 
 abbrev pub step5 : ℕ → Choice → ℕ → Result Sizes FrameFault
-step5 w height h = ranged_at 4095 4095 height.1 height.2 >>= step6 w h
+step5 w height h = ranged_at true 4095 4095 height.0.1 height.1 height.2 >>= step6 w h
 
 abbrev pub step4 : ℕ → Choice → Result Sizes FrameFault
-step4 w height = or_fault HeightOutOfRange height.0 >>= step5 w height
+step4 w height = or_fault HeightOutOfRange height.0.0 >>= step5 w height
 
 abbrev pub step3 : SizeLimits → Choice → ℕ → Result Sizes FrameFault
-step3 limits width w = ranged_at 1 limits.height width.1 width.2 >>= step4 w
+step3 limits width w = ranged_at false 1 limits.height width.0.1 width.1 width.2 >>= step4 w
 
 abbrev pub step2 : SizeLimits → Choice → Result Sizes FrameFault
-step2 limits width = or_fault WidthOutOfRange width.0 >>= step3 limits width
+step2 limits width = or_fault WidthOutOfRange width.0.0 >>= step3 limits width
 
-abbrev pub step1 : SizeLimits → Mark → Result Sizes FrameFault
-step1 limits magic = ranged_at 1 limits.width magic.1 magic.2 >>= step2 limits
+abbrev pub step1 : SizeLimits → Point → Result Sizes FrameFault
+step1 limits magic = ranged_at false 1 limits.width magic.0 magic.1 magic.2 >>= step2 limits
 
 pub record HeaderRead (limits : SizeLimits) (bytes : List ℕ) (read : Sizes) : Type 0 where
   pub parts : Parts
@@ -389,32 +388,26 @@ pub record HeaderRead (limits : SizeLimits) (bytes : List ℕ) (read : Sizes) : 
   pub within : IsWithin limits read.0.0 read.0.1
   pub place : read.1 ≡ length (header parts)
 
-pub gap-of : (b : ℕ) (gap : List ℕ) → is_white b ≡ true → All IsWhite gap → IsGap (b ∷ gap)
-gap-of b gap first others = record {
-  some = omega arith;
-  white =
-      All-cons IsWhite b gap first others;
-}
-
 pub header-found : (limits : SizeLimits) (bytes : List ℕ) (read : Sizes) →
     header_at limits bytes ≡ Ok read → HeaderRead limits bytes read
 unfolding header_at
 header-found limits bytes read e =
     let a = bind_ok (magic_at 0 bytes) (step1 limits) read e in
-    let b = bind_ok (ranged_at 1 limits.width a.0.1 a.0.2) (step2 limits) read a.2 in
-    let w = bind_ok (or_fault WidthOutOfRange b.0.0) (step3 limits b.0) read b.2 in
-    let c = bind_ok (ranged_at 1 limits.height b.0.1 b.0.2) (step4 w.0) read w.2 in
-    let h = bind_ok (or_fault HeightOutOfRange c.0.0) (step5 w.0 c.0) read c.2 in
-    let d = bind_ok (ranged_at 4095 4095 c.0.1 c.0.2) (step6 w.0 h.0) read h.2 in
-    let m = bind_ok (or_fault WrongMaxval d.0.0) (step7 w.0 h.0 d.0) read d.2 in
+    let b = bind_ok (ranged_at false 1 limits.width a.0.0 a.0.1 a.0.2) (step2 limits) read a.2 in
+    let w = bind_ok (or_fault WidthOutOfRange b.0.0.0) (step3 limits b.0) read b.2 in
+    let c = bind_ok (ranged_at false 1 limits.height b.0.0.1 b.0.1 b.0.2) (step4 w.0) read w.2 in
+    let h = bind_ok (or_fault HeightOutOfRange c.0.0.0) (step5 w.0 c.0) read c.2 in
+    let d = bind_ok (ranged_at true 4095 4095 c.0.0.1 c.0.1 c.0.2) (step6 w.0 h.0) read h.2 in
+    let m = bind_ok (or_fault WrongMaxval d.0.0.0) (step7 w.0 h.0 d.0) read d.2 in
     let magic = magic-found bytes a.0 a.1 in
-    let width = ranged-found 1 limits.width a.0.1 a.0.2 w.0 b.0 b.1
-    (some-of WidthOutOfRange b.0.0 w.0 w.1) in
-    let height = ranged-found 1 limits.height b.0.1 b.0.2 h.0 c.0 c.1
-    (some-of HeightOutOfRange c.0.0 h.0 h.1) in
-    let maxval = ranged-found 4095 4095 c.0.1 c.0.2 m.0 d.0 d.1
-    (some-of WrongMaxval d.0.0 m.0 m.1) in
-    put magic.gap w.0 h.0 m.0 a.0.1 b.0.1 c.0.1 d.0.1 a.0.2 b.0.2 c.0.2 d.0.2 bytes read magic.white
+    let width = ranged-found false 1 limits.width a.0.0 a.0.1 a.0.2 w.0 b.0 b.1
+    (some-of WidthOutOfRange b.0.0.0 w.0 w.1) in
+    let height = ranged-found false 1 limits.height b.0.0.1 b.0.1 b.0.2 h.0 c.0 c.1
+    (some-of HeightOutOfRange c.0.0.0 h.0 h.1) in
+    let maxval = ranged-found true 4095 4095 c.0.0.1 c.0.1 c.0.2 m.0 d.0 d.1
+    (some-of WrongMaxval d.0.0.0 m.0 m.1) in
+    put a.0.0 w.0 b.0.0.1 h.0 c.0.0.1 m.0 d.0.0.1 a.0.1 b.0.1 c.0.1 d.0.1 a.0.2 b.0.2 c.0.2 d.0.2
+    bytes read magic.begins
     magic.parts magic.place width.0 height.0 maxval.0
     (omega (arith, maxval.1, maxval.2))
     (record {
@@ -425,37 +418,36 @@ header-found limits bytes read e =
       height_in_limits = height.2;
     }) (value-is ((w.0, h.0), d.0.1, d.0.2) read m.2)
   where
-    put : (g w h m at1 at2 at3 at4 : ℕ) (r1 r2 r3 r4 bytes : List ℕ) (read : Sizes) →
-        is_white g ≡ true → bytes ≡ 80 ∷ 54 ∷ g ∷ r1 → at1 ≡ 3
-        → NumberRead at1 r1 (w, at2, r2) → NumberRead at2 r2 (h, at3, r3) →
-        NumberRead at3 r3 (m, at4, r4) → m ≡ 4095
+    put : (g w e1 h e2 m e3 at1 at2 at3 at4 : ℕ) (r1 r2 r3 r4 bytes : List ℕ) (read : Sizes) →
+        begins_gap g ≡ true → bytes ≡ 80 ∷ 54 ∷ g ∷ r1 → at1 ≡ 3
+        → NumberRead false g at1 r1 ((w, e1), at2, r2) →
+        NumberRead false e1 at2 r2 ((h, e2), at3, r3) →
+        NumberRead true e2 at3 r3 ((m, e3), at4, r4) → m ≡ 4095
         → IsWithin limits w h → (let s : Sizes = ((w, h), at4, r4) in s) ≡ read →
         HeaderRead limits bytes read
-    put g w h m at1 at2 at3 at4 r1 r2 r3 r4 bytes read white magic three width height maxval is
-        within same =
+    put g w e1 h e2 m e3 at1 at2 at3 at4 r1 r2 r3 r4 bytes read begins magic three width height
+        maxval is within same =
         subst (λ (s : Sizes). HeaderRead limits bytes s) same (record {
           parts = record {
             gap1 = g ∷ width.gap;
             width = width.digits;
-            gap2 =
-                width.end ∷ height.gap;
+            gap2 = e1 ∷ height.gap;
             height = height.digits;
-            gap3 =
-                height.end ∷ maxval.gap;
+            gap3 = e2 ∷ maxval.gap;
             maxval = maxval.digits;
-            end = maxval.end;
+            end = e3;
           };
           is_header = record {
-            gap1 = gap-of g width.gap white width.white;
+            gap1 = gap-of g width.gap (begins, width.runs);
             width_is = width.numeral;
-            gap2 = gap-of width.end height.gap width.ends height.white;
+            gap2 = gap-of e1 height.gap (width.ends, height.runs);
             height_is = height.numeral;
-            gap3 = gap-of height.end maxval.gap height.ends maxval.white;
+            gap3 = gap-of e2 maxval.gap (height.ends, maxval.runs);
             maxval = rw is at maxval.numeral;
             ended = maxval.ends;
             short = omega (
               arith,
-              length-header g width.end height.end maxval.end width.gap width.digits height.gap
+              length-header g e1 e2 e3 width.gap width.digits height.gap
                   height.digits maxval.gap maxval.digits,
               width.place,
               height.place,
@@ -463,13 +455,13 @@ header-found limits bytes read e =
               maxval.room,
             );
           };
-          whole = whole-header g width.end height.end maxval.end width.gap width.digits height.gap
+          whole = whole-header g e1 e2 e3 width.gap width.digits height.gap
               height.digits maxval.gap maxval.digits r4 r1 r2 r3 bytes
               magic width.parts height.parts maxval.parts;
           within = within;
           place = omega (
             arith,
-            length-header g width.end height.end maxval.end width.gap width.digits height.gap
+            length-header g e1 e2 e3 width.gap width.digits height.gap
                 height.digits maxval.gap maxval.digits,
             three,
             width.place,

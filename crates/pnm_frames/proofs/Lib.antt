@@ -2,6 +2,7 @@ pub mod Keeping
 pub mod Headers
 pub mod Planes
 pub mod Samples
+pub mod Gaps
 pub mod Files
 pub mod Grammar
 pub mod Again

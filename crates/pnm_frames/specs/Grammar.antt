@@ -1,7 +1,8 @@
--- The grammar of a file: ppm(5), magic P6, maxval 4095, without comments.
-use Rattle.std.specs.Prelude.{ℕ, ◌≡◌, ◌<◌, ◌≤◌, ◌+◌, ◌*◌, ◌-◌, Bool, true, ◌||◌, ◌==◌, List, []}
-use Rattle.std.specs.Prelude.{◌∷◌, ◌++◌, length, All}
+-- The grammar of a file: ppm(5), magic P6, maxval 4095, comments in the gaps of the header.
+use Rattle.std.specs.Prelude.{ℕ, ◌≡◌, ◌<◌, ◌≤◌, ◌+◌, ◌*◌, ◌-◌, ◌⊎◌, Bool, true, false, ◌||◌, ◌==◌}
+use Rattle.std.specs.Prelude.{if◌then◌else◌, List, [], ◌∷◌, ◌++◌, length, All}
 use Rattle.std.specs.Char.{is_ascii_digit}
+use Rattle.std.specs.List.{concat}
 use Rattle.pnm_frames.specs.Picture.{Picture, raster}
 
 -- space, TAB, LF and CR
@@ -13,10 +14,36 @@ abbrev pub value_from : ℕ → List ℕ → ℕ
 value_from n [] = n
 value_from n (digit ∷ digits) = value_from (10 * n + (digit - 48)) digits
 
--- one or more white space bytes
+-- white space, or the `#` of a comment
+abbrev pub begins_gap : ℕ → Bool
+begins_gap b = is_white b || b == 35
+
+-- LF and CR
+abbrev pub ends_comment : ℕ → Bool
+ends_comment b = b == 10 || b == 13
+
+-- `#`, a text without LF and CR, and one LF or CR
+pub record IsComment (bytes : List ℕ) : Type 0 where
+  pub text : List ℕ
+  pub end : ℕ
+  pub inside : All (λ b. ends_comment b ≡ false) text
+  pub ended : ends_comment end ≡ true
+  pub whole : bytes ≡ 35 ∷ (text ++ (end ∷ []))
+
+-- a white space byte, or a comment
+abbrev pub IsGapItem : List ℕ → Type 0
+IsGapItem bytes = ((b : ℕ) × (is_white b ≡ true) × (bytes ≡ b ∷ [])) ⊎ IsComment bytes
+
+-- one or more of them, each after the other
 pub record IsGap (gap : List ℕ) : Type 0 where
-  pub some : 0 < length gap
-  pub white : All (λ b. is_white b ≡ true) gap
+  pub items : List (List ℕ)
+  pub some : 0 < length items
+  pub each : All IsGapItem items
+  pub whole : gap ≡ concat items
+
+-- what ends a number: the first byte of a gap, and after the last number, the maxval, white space
+abbrev pub ends_number : Bool → ℕ → Bool
+ends_number last b = if last then is_white b else begins_gap b
 
 -- one or more ASCII digits, leading zeros allowed, that are worth n
 pub record IsNumeral (digits : List ℕ) (n : ℕ) : Type 0 where

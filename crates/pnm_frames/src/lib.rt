@@ -1,5 +1,5 @@
 //! Frames as binary PPM files: ppm(5), magic `P6`, maxval 4095, the samples X', Y' and Z' of each
-//! pixel in two bytes, high byte first. Comments aren't in the grammar.
+//! pixel in two bytes, high byte first. Comments may stand in the gaps of the header.
 //!
 //! `read_frame` returns a frame exactly if the bytes of a begun file spell a picture within the
 //! limits, and then that picture (`Spells` in specs/Grammar.antt). Any other file is refused for

@@ -17,6 +17,9 @@ const COLUMN: &[u8] = b"P6 1\t2\r\n04095 \x00\x01\x00\x02\x00\x03\x01\x00\x02\x0
 /// A frame of one row of two pixels.
 const ROW: &[u8] = b"P6\n2 1\n4095\n\x00\x01\x00\x02\x00\x03\x01\x00\x02\x00\x03\x00";
 
+/// The frame of one pixel with a comment in each gap of its header, and a `#` in its raster.
+const WITH_COMMENTS: &[u8] = b"P6#1 2\r\n1# \n 1\t#4095\r#\n4095\n\x01#\x0A#\x0F#";
+
 const LIMITS: SizeLimits = SizeLimits {
     width: 2048,
     height: 1080,
@@ -29,18 +32,14 @@ const HEADER_FAULTS: &[(&[u8], FrameFault)] = &[
     (b"P5\n1 1\n4095\n", FrameFault::NotPpm),
     (b"P#", FrameFault::NotPpm),
     (b"P61 1", FrameFault::BadHeader(2)),
-    (b"P6#", FrameFault::BadHeader(2)),
     (b"P6\x0B", FrameFault::BadHeader(2)),
     (b"P6\x0C", FrameFault::BadHeader(2)),
     (b"P6\nx", FrameFault::BadHeader(3)),
-    (b"P6\n#\n1 1\n4095\n", FrameFault::BadHeader(3)),
     (b"P6\n-1 1", FrameFault::BadHeader(3)),
     (b"P6\n\x00", FrameFault::BadHeader(3)),
-    (b"P6\n1#\n1", FrameFault::BadHeader(4)),
-    (b"P6\n1\t\r\n #", FrameFault::BadHeader(8)),
+    (b"P6\n1\t\r\n +", FrameFault::BadHeader(8)),
     (b"P6\n1 1/", FrameFault::BadHeader(6)),
     (b"P6\n1 1:", FrameFault::BadHeader(6)),
-    (b"P6\n1 1\n4095#\n", FrameFault::BadHeader(11)),
     (b"P6\n1 1\n4095\x08", FrameFault::BadHeader(11)),
     // The byte that ends a number is judged before the number.
     (b"P6\n2049x", FrameFault::BadHeader(7)),
@@ -61,10 +60,59 @@ const HEADER_FAULTS: &[(&[u8], FrameFault)] = &[
     (b"P6\n1 1\n4294971391\n", FrameFault::WrongMaxval),
     (b"P6\n1 1\n4094\n\xFF\xFF", FrameFault::WrongMaxval),
     (b"P6\n1 1\n4096\n", FrameFault::WrongMaxval),
+    // A comment stands in a gap alone.
+    (b"#\nP6\n1 1\n4095\n", FrameFault::NotPpm),
+    (b"P#\n6\n1 1\n4095\n", FrameFault::NotPpm),
+    (b"P6\n#\n\x0B", FrameFault::BadHeader(5)),
+    (b"P6#1\n-1 1", FrameFault::BadHeader(5)),
+    (b"P6\n1 1\n4095#\n", FrameFault::BadHeader(11)),
+    (b"P6\n1 1\n#\n255#\n", FrameFault::BadHeader(12)),
+    // It is cut off by the end of the file.
+    (b"P6#", FrameFault::Truncated(3)),
+    (b"P6\n# 1 1 4095 ", FrameFault::Truncated(14)),
+    (b"P6\n1#\n1#\x0B\x0C\x00\xFF", FrameFault::Truncated(12)),
+    (b"P6\n1 1 #\r##", FrameFault::Truncated(11)),
+    // A `#` ends the width and the height, which are judged there.
+    (b"P6\n0#", FrameFault::WidthOutOfRange),
+    (b"P6\n2049# 1\n4095\n", FrameFault::WidthOutOfRange),
+    (b"P6\n1 1081#\n4095\n", FrameFault::HeightOutOfRange),
+    (b"P6 1#x\n2 1\n4095\n", FrameFault::WrongMaxval),
+];
+
+/// Headers of a frame of one pixel with comments in their gaps.
+const COMMENTED: &[&[u8]] = &[
+    // As GIMP, ImageMagick's convert and Netpbm's manual write them.
+    b"P6\n# CREATOR: GIMP PNM Filter Version 1.1\n1 1\n4095\n",
+    b"P6\n# Created by GIMP version 2.10.34 PNM plug-in\n1 1\n4095\n",
+    b"P6\n#two lines\n1 1\n4095\n",
+    b"P6\n# feep.ppm\n1 1\n4095\n",
+    b"P6\n# 12 bit\n1 1\n4095\n",
+    // In each gap, ended by LF or CR, alone and among white space.
+    b"P6#\n1 1 4095 ",
+    b"P6 1#\n1 4095 ",
+    b"P6 1 1#\r4095 ",
+    b"P6#a\r1#b\n1#c\r4095\r",
+    b"P6\t#a\n\n1 #b\r\n 1\r#c\n 4095\t",
+    b"P6\r\n# a\r\n1 1\r\n4095\n",
+    // Any other bytes belong to the comment, a `#` and numbers too.
+    b"P6\n#\n##\n# 9 9 255\n\n#\x00\xFF\t P5 #\x0B\x0C\n01 001\n04095\n",
 ];
 
 /// Files whose raster is refused, or is too short or too long.
 const RASTER_FAULTS: &[(&[u8], FrameFault)] = &[
+    // A `#` after the header is a byte of the raster.
+    (
+        b"P6\n1 1\n4095\n#\n\x08\x00\x08\x00\x08\x00",
+        FrameFault::SampleTooLarge(12),
+    ),
+    (
+        b"P6\n1 1\n4095 # 12 bit\n\x08\x00\x08\x00\x08\x00",
+        FrameFault::SampleTooLarge(12),
+    ),
+    (
+        b"P6#\n1 1\n4095\n\x00#\x00\n\x00#\n",
+        FrameFault::TrailingBytes,
+    ),
     (
         b"P6\n1 1\n4095\n\x08\x00\x10\x00\x08\x00",
         FrameFault::SampleTooLarge(14),
@@ -158,7 +206,7 @@ fn a_faulty_raster_is_refused(rt: HostRuntime) -> Result<(), Fail> {
 #[test]
 fn every_shorter_file_is_truncated(rt: HostRuntime) -> Result<(), Fail> {
     let alloc = rt.alloc();
-    for file in [PIXEL, COLUMN, ROW] {
+    for file in [PIXEL, COLUMN, ROW, WITH_COMMENTS] {
         for n in 0..file.len() {
             let want = Some(FrameFault::Truncated(n as u32));
             assert!(rt; fault(alloc, &file[..n])? == want, "{n} bytes of {file:?}");
@@ -183,12 +231,28 @@ const LONG_HEADERS: &[(u8, u32, &[u8], Option<FrameFault>)] = &[
     (b' ', 4092, b"", Some(FrameFault::Truncated(4095))),
     (b' ', 4093, b"", Some(FrameFault::HeaderTooLong)),
     (b' ', 4093, b"1", Some(FrameFault::HeaderTooLong)),
-    (b' ', 4092, b"#", Some(FrameFault::BadHeader(4095))),
+    (b' ', 4092, b"x", Some(FrameFault::BadHeader(4095))),
+    (b' ', 4091, b"#", Some(FrameFault::Truncated(4095))),
+    (b' ', 4092, b"#", Some(FrameFault::HeaderTooLong)),
     (b'0', 4093, b"", Some(FrameFault::HeaderTooLong)),
     (b'9', 4000, b" ", Some(FrameFault::WidthOutOfRange)),
     (b'9', 4092, b" ", Some(FrameFault::WidthOutOfRange)),
     (b'9', 4093, b" ", Some(FrameFault::HeaderTooLong)),
+    (b'9', 4092, b"#", Some(FrameFault::WidthOutOfRange)),
+    (b'9', 4093, b"#", Some(FrameFault::HeaderTooLong)),
     (b'9', 5000, b" ", Some(FrameFault::HeaderTooLong)),
+    (b'#', 4092, b"", Some(FrameFault::Truncated(4095))),
+    (b'#', 4093, b"", Some(FrameFault::HeaderTooLong)),
+    (b'#', 4092, b"\n", Some(FrameFault::HeaderTooLong)),
+    (b'#', 4092, b"\nx", Some(FrameFault::HeaderTooLong)),
+    (b'#', 4091, b"\nx", Some(FrameFault::BadHeader(4095))),
+    (b'#', 4083, b"\n1 1 4095\n\x00\x00\x00\x00\x00\x00", None),
+    (
+        b'#',
+        4084,
+        b"\n1 1 4095\n\x00\x00\x00\x00\x00\x00",
+        Some(FrameFault::HeaderTooLong),
+    ),
     (b' ', 4085, b"1 1 255\n", Some(FrameFault::WrongMaxval)),
     (b' ', 4084, b"1 1 4095\n\x00\x00\x00\x00\x00\x00", None),
     (b'0', 4084, b"1 1 4095\n\x00\x00\x00\x00\x00\x00", None),
@@ -240,6 +304,32 @@ fn grey(alloc: Global, header: &[u8], count: u32) -> Result<Vec<u8>, AllocError>
         bytes.extend_from_slice(b"\x08\x00\x08\x00\x08\x00".as_slice())?;
     }
     Ok(bytes)
+}
+
+#[test]
+fn comments_are_read_over(rt: HostRuntime) -> Result<(), Fail> {
+    let alloc = rt.alloc();
+    for header in COMMENTED {
+        let file = grey(alloc, header, 1)?;
+        let want = Header {
+            width: 1,
+            height: 1,
+            bytes: header.len() as u32,
+        };
+        let read = read_header(&mut begun(alloc, file.as_slice(), &[], 3)?, LIMITS);
+        assert!(rt; read == Ok(want), "header {header:?}");
+        let mut frames = begun(alloc, file.as_slice(), &[], 100)?;
+        let frame = read_frame(alloc, &mut frames, LIMITS)?;
+        assert!(rt;
+            frame.x.as_slice() == [2048].as_slice(),
+            "frame of {header:?}"
+        );
+    }
+    let frame = read_frame(alloc, &mut begun(alloc, WITH_COMMENTS, &[], 5)?, LIMITS)?;
+    assert!(rt; frame.x.as_slice() == [0x123].as_slice());
+    assert!(rt; frame.y.as_slice() == [0xA23].as_slice());
+    assert!(rt; frame.z.as_slice() == [0xF23].as_slice());
+    Ok(())
 }
 
 #[test]

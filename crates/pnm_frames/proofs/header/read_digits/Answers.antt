@@ -15,19 +15,19 @@ returns-in_err-b-clause-reads g c =
     let left = (g.F.Frames.reading c.loop-b.f).left in
     rw (p.1, p.2) (λ told. rw (c.loop-b.invariant.reads told)
     (fails-on c.in_err-b.field-0.0 (byte_at c.loop-b.at left)
-    (capped (digits_at c.loop-b.n c.loop-b.at left)) (digits-fault c.loop-b.n c.loop-b.at left)
+    (capped (digits_at c.args.last c.loop-b.n c.loop-b.at left)) (digits-fault c.args.last c.loop-b.n c.loop-b.at left)
     (c.in_err-b.ensures.reads (told-on _ _ c.loop-b.invariant.keeps.source told))))
 
-pub returns-then-is_white-clause-keeps : goal.returns-then-is_white-clause-keeps
-returns-then-is_white-clause-keeps g c =
+pub returns-then-ends_number-clause-keeps : goal.returns-then-ends_number-clause-keeps
+returns-then-ends_number-clause-keeps g c =
     keeps-then _ _ _ _ _ _ c.loop-b.invariant.keeps c.read_header_byte.ensures.keeps
 
-pub returns-then-is_white-clause-reads : goal.returns-then-is_white-clause-reads
-returns-then-is_white-clause-reads g c = λ told.
+pub returns-then-ends_number-clause-reads : goal.returns-then-ends_number-clause-reads
+returns-then-ends_number-clause-reads g c = λ told.
     c.loop-b.invariant.reads told
-    ∙ digits-end c.loop-b.n c.loop-b.at _ _ _ _ c.loop-b.invariant.worth
+    ∙ digits-end c.args.last c.loop-b.n c.loop-b.at _ _ _ _ c.loop-b.invariant.worth
     (c.in_ok-b.ensures.reads (told-on _ _ c.loop-b.invariant.keeps.source told))
-    (sym c.is_white.ensures ∙ c.if-is_white.true)
+    (sym c.ends_number.ensures ∙ c.if-ends_number.true)
 
 pub returns-then-not-is_ascii_digit-clause-keeps : goal.returns-then-not-is_ascii_digit-clause-keeps
 returns-then-not-is_ascii_digit-clause-keeps g c =
@@ -35,17 +35,17 @@ returns-then-not-is_ascii_digit-clause-keeps g c =
 
 pub returns-then-not-is_ascii_digit-clause-reads : goal.returns-then-not-is_ascii_digit-clause-reads
 returns-then-not-is_ascii_digit-clause-reads g c = λ told.
-    c.loop-b.invariant.reads told ∙ digits-bad c.loop-b.n c.loop-b.at _ _ _ _
+    c.loop-b.invariant.reads told ∙ digits-bad c.args.last c.loop-b.n c.loop-b.at _ _ _ _
     (c.in_ok-b.ensures.reads (told-on _ _ c.loop-b.invariant.keeps.source told))
-    (sym c.is_white.ensures ∙ c.if-is_white.false)
+    (sym c.ends_number.ensures ∙ c.if-ends_number.false)
     (sym c.is_ascii_digit.ensures.value ∙ c.if-not-is_ascii_digit.true)
 
 pub loop-b-preserved : goal.loop-b-preserved
 loop-b-preserved g c = record {
   reads = λ told.
-      c.loop-b.invariant.reads told ∙ digits-more c.loop-b.n c.loop-b.at _ _ _ _ _
+      c.loop-b.invariant.reads told ∙ digits-more c.args.last c.loop-b.n c.loop-b.at _ _ _ _ _
       (c.in_ok-b.ensures.reads (told-on _ _ c.loop-b.invariant.keeps.source told))
-      (sym c.is_white.ensures ∙ c.if-is_white.false)
+      (sym c.ends_number.ensures ∙ c.if-ends_number.false)
       (sym c.is_ascii_digit.ensures.value ∙ c.if-not-is_ascii_digit.false) c.with_digit-n.ensures;
   place = omega (arith, c.in_ok-b.ensures.at, c.in_ok-b.ensures.room);
   worth = omega (arith, c.with_digit-n.ensures);

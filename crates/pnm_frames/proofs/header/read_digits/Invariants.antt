@@ -7,8 +7,8 @@ use Rattle.pnm_frames.proofs.header.read_digits.Given as goal
 abbrev pub invariant-loop-b : goal.invariant-loop-b
 invariant-loop-b g l = record {
   reads : IsSome (g.F.Frames.source l.fn.f).files →
-      capped (digits_at l.fn.n l.fn.at (g.F.Frames.reading l.fn.f).left)
-      ≡ capped (digits_at l.n l.at (g.F.Frames.reading l.f).left);
+      capped (digits_at l.fn.last l.fn.n l.fn.at (g.F.Frames.reading l.fn.f).left)
+      ≡ capped (digits_at l.fn.last l.n l.at (g.F.Frames.reading l.f).left);
   place : l.at ≤ 4096;
   worth : l.n ≤ 2 ^ 32;
   keeps : ReadsOn (g.F.Frames.source l.fn.f) (g.F.Frames.source l.f) (g.F.Frames.reading l.fn.f)
