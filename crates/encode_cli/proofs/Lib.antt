@@ -4,5 +4,6 @@ pub mod Known
 pub mod Limits
 pub mod Outputs
 pub mod Progress
+pub mod SaidLines
 pub mod Stops
 pub mod Words

@@ -4,6 +4,7 @@ use Rattle.cert_text.specs.declared.cert_line.CertLine.{CertLine}
 use Rattle.pnm_frames.specs.Picture.{Picture}
 use Rattle.frame_encoder.specs.Encoded.{Encoding}
 use Rattle.frame_encoder.specs.declared.order.EncodeOrder.{EncodeOrder}
+use Rattle.encode_cli.specs.Widths.{HasWidths}
 
 -- What a certificate line says is of the frame with this name that holds this picture and is
 -- encoded so: each field is the frame's, the order's or the encoding's.
@@ -22,3 +23,5 @@ pub record IsCertOf (order : EncodeOrder) (name : List ℕ) (p : Picture) (e : E
   pub empty : says.empty ≡ e.empty
   -- multipliers, gap, distortion of the chosen passes, refused steps
   pub certificate : says.certificate ≡ e.certificate
+  -- each number is one of the type that the program has it in
+  pub widths : HasWidths says

@@ -15,6 +15,7 @@ mod arguments;
 mod frame;
 mod frames;
 mod help;
+mod laws;
 mod output;
 mod program;
 mod refusal;
@@ -23,6 +24,7 @@ mod run;
 mod stop;
 #[cfg(test)]
 mod tests;
+mod widths;
 
 use program::run_program;
 use std::process::ExitCode;

@@ -8,6 +8,7 @@ ghost use Rattle.encode_cli.specs.Refused.{refused_line};
 ghost use Rattle.encode_cli.specs.ReportLine.{IsCertOf};
 
 use crate::refusal::Refusal;
+use crate::widths::widths;
 use cert_text::{CertLine, RefusedLine, write_refused};
 use frame_encoder::{EncodeOrder, Encoded};
 use pnm_frames::Frame;
@@ -60,6 +61,7 @@ pub fn certified(
         empty,
         certificate,
     };
+    widths(&says);
     Ok((bytes, says))
 }
 
