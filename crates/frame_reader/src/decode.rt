@@ -1,5 +1,5 @@
 // Decoding what was found of a codestream.
-ghost use Rattle.std.specs.Prelude.{◌≡◌, length, IfOk, IfErr};
+ghost use Rattle.std.specs.Prelude.{◌≡◌, ◌<◌, ◌^◌, length, IfOk, IfErr};
 ghost use Rattle.codestream_reader.specs.declared.refusal.ReadRefusal.TheVariants.{Memory};
 ghost use Rattle.frame_reader.specs.Blocks.{CanDecode};
 ghost use Rattle.frame_reader.specs.Decoded.{IsDecodedOf};
@@ -20,6 +20,7 @@ pub(crate) fn decode(
 ) -> Result<Decoded, ReadRefusal>
     requires can { CanDecode bytes.now found }
     ensures decoded { IfOk result (IsDecodedOf bytes.now found) }
+    ensures few { IfOk result (λ d. length d.blocks.items < 2 ^ 32) }
     ensures memory { IfErr result (λ refusal. refusal ≡ Memory) }
 {
     let mut planes = blank(alloc, &found.geometry)?;

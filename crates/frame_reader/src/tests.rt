@@ -75,6 +75,23 @@ const SMALL_4K: [u8; 308] = [
     0x42, 0x0B, 0xFF, 0xD9,
 ];
 
+/// The codestream of a grey pixel, of which nothing is included.
+#[rattlefmt::skip]
+const GREY: [u8; 191] = [
+    0xFF, 0x4F, 0xFF, 0x51, 0x00, 0x2F, 0x00, 0x03, 0x00, 0x00, 0x00, 0x01, 0x00, 0x00, 0x00, 0x01,
+    0x00, 0x00, 0x00, 0x00, 0x00, 0x00, 0x00, 0x00, 0x00, 0x00, 0x00, 0x01, 0x00, 0x00, 0x00, 0x01,
+    0x00, 0x00, 0x00, 0x00, 0x00, 0x00, 0x00, 0x00, 0x00, 0x03, 0x0B, 0x01, 0x01, 0x0B, 0x01, 0x01,
+    0x0B, 0x01, 0x01, 0xFF, 0x52, 0x00, 0x12, 0x01, 0x04, 0x00, 0x01, 0x01, 0x05, 0x03, 0x03, 0x00,
+    0x00, 0x77, 0x88, 0x88, 0x88, 0x88, 0x88, 0xFF, 0x5C, 0x00, 0x23, 0x22, 0x90, 0x00, 0x90, 0x00,
+    0x90, 0x00, 0x90, 0x00, 0x88, 0x00, 0x88, 0x00, 0x88, 0x00, 0x80, 0x00, 0x80, 0x00, 0x80, 0x00,
+    0x78, 0x00, 0x78, 0x00, 0x78, 0x00, 0x70, 0x00, 0x70, 0x00, 0x70, 0x00, 0xFF, 0x55, 0x00, 0x13,
+    0x00, 0x50, 0x00, 0x00, 0x00, 0x00, 0x14, 0x00, 0x00, 0x00, 0x00, 0x14, 0x00, 0x00, 0x00, 0x00,
+    0x14, 0xFF, 0x90, 0x00, 0x0A, 0x00, 0x00, 0x00, 0x00, 0x00, 0x14, 0x00, 0x03, 0xFF, 0x93, 0x00,
+    0x00, 0x00, 0x00, 0x00, 0x00, 0xFF, 0x90, 0x00, 0x0A, 0x00, 0x00, 0x00, 0x00, 0x00, 0x14, 0x01,
+    0x03, 0xFF, 0x93, 0x00, 0x00, 0x00, 0x00, 0x00, 0x00, 0xFF, 0x90, 0x00, 0x0A, 0x00, 0x00, 0x00,
+    0x00, 0x00, 0x14, 0x02, 0x03, 0xFF, 0x93, 0x00, 0x00, 0x00, 0x00, 0x00, 0x00, 0xFF, 0xD9,
+];
+
 /// A coefficient whose bit-planes are all known.
 const fn whole(magnitude: u32, negative: bool) -> Known {
     Known {
@@ -260,5 +277,65 @@ fn changed_codestreams_are_refused(rt: HostRuntime) -> Result<(), Fail> {
     ] {
         assert_eq!(rt; refused_with(rt.alloc(), at, changed), Some(refusal));
     }
+    Ok(())
+}
+
+/// The codestream of a grey pixel is read. It has no coding passes, and each of its components has
+/// the 18 bit-planes of its lowest band.
+#[test]
+fn a_grey_pixel_is_read(rt: HostRuntime) -> Result<(), Fail> {
+    let decoded = read(rt.alloc(), &GREY)?;
+    assert_eq!(rt;
+        (decoded.held.frame, decoded.held.component),
+        (191, [20, 20, 20])
+    );
+    assert_eq!(rt;
+        decoded.blocks.as_slice(),
+        [block(18, 0), block(18, 0), block(18, 0)].as_slice()
+    );
+    assert_eq!(rt; decoded.c0.cells.as_slice(), [nothing(18)].as_slice());
+    assert_eq!(rt; decoded.c1.cells.as_slice(), [nothing(18)].as_slice());
+    assert_eq!(rt; decoded.c2.cells.as_slice(), [nothing(18)].as_slice());
+    Ok(())
+}
+
+/// The first fault of its first `n` bytes: a segment of the main header that ends past them, a
+/// tile-part whose head or whose length does, or EOC.
+const fn fault_of_cut(n: u32) -> ReadRefusal {
+    match n {
+        0..=130 => ReadRefusal::Main(MarkerRefusal::SegmentTruncated(n)),
+        131..=140 => ReadRefusal::Part(PartRefusal::BadTilePart(129)),
+        141..=148 => ReadRefusal::Part(PartRefusal::BadTilePart(135)),
+        149..=160 => ReadRefusal::Part(PartRefusal::BadTilePart(149)),
+        161..=168 => ReadRefusal::Part(PartRefusal::BadTilePart(155)),
+        169..=180 => ReadRefusal::Part(PartRefusal::BadTilePart(169)),
+        181..=188 => ReadRefusal::Part(PartRefusal::BadTilePart(175)),
+        _ => ReadRefusal::MissingEnd(189),
+    }
+}
+
+#[test]
+fn cut_codestreams_are_refused(rt: HostRuntime) -> Result<(), Fail> {
+    for n in 0..GREY.len() {
+        let cut = GREY.get(..n).unwrap_or_default();
+        assert_eq!(rt; read(rt.alloc(), cut).err(), Some(fault_of_cut(n as u32)));
+    }
+    Ok(())
+}
+
+/// Its first tile-part without the last of its six packets, and the lengths that go with that.
+#[test]
+fn a_codestream_of_too_few_packets_is_refused(rt: HostRuntime) -> Result<(), Fail> {
+    let mut bytes = Vec::new(rt.alloc());
+    bytes.extend_from_slice(GREY.get(..148).unwrap_or_default())?;
+    bytes.extend_from_slice(GREY.get(149..).unwrap_or_default())?;
+    for at in [118, 138] {
+        if let Some(length) = bytes.get_mut(at) {
+            *length = 19;
+        }
+    }
+    assert_eq!(rt; bytes.len(), 190);
+    let fault = ReadRefusal::Packet(PacketRefusal::HeaderTruncated(148));
+    assert_eq!(rt; read(rt.alloc(), bytes.as_slice()).err(), Some(fault));
     Ok(())
 }

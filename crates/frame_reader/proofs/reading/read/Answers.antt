@@ -1,4 +1,4 @@
-use Rattle.std.proofs.Common.{◌≡◌, ◌⊎◌, Err, ap, inl}
+use Rattle.std.proofs.Common.{ℕ, ◌≡◌, ◌⊎◌, List, Err, ap, sym, subst, inl}
 use Rattle.std.proofs.lemmas.Result.{IfErr-weaker}
 use Rattle.codestream_reader.specs.Faults.{HasFault}
 use Rattle.codestream_reader.specs.declared.refusal.ReadRefusal.{ReadRefusal}
@@ -7,6 +7,8 @@ use Rattle.codestream_reader.specs.declared.stream.StreamSpans.{StreamSpans}
 use Rattle.codestream_reader.proofs.Ending.{either, neither}
 use Rattle.codestream_reader.proofs.Lists.{ok_no_err}
 use Rattle.codestream_reader.proofs.OnePacket.{err_once}
+use Rattle.profile_reader.specs.Reads.{Reads}
+use Rattle.profile_reader.specs.Shown.{chosen_decoding}
 use Rattle.frame_reader.specs.Decoded.{HaveSides, IsDecodedOf, IsMeaning, decoding_of, held_from}
 use Rattle.frame_reader.proofs.Meaning.{can_decode, either_way, have_sides, held_there, meaning}
 use Rattle.frame_reader.proofs.Meaning.{ok_weaker, only_meaning, stream_of}
@@ -30,6 +32,17 @@ returns-in-Err-clause-faults c refusal f =
     (λ e. ap (λ k. Err k)
     (err_once {T = StreamSpans} {E = ReadRefusal} c.in-Err.refusal Memory e))
     (c.in-Err.ensures.faults refusal f)
+
+pub returns-in-Err-clause-written : goal.returns-in-Err-clause-written
+returns-in-Err-clause-written c g steps planes choice can is within =
+    let d = chosen_decoding g steps planes choice in
+    let m : IsMeaning c.args.bytes.now d =
+    record {
+      reads = subst (λ (bytes : List ℕ). Reads bytes d) (sym is)
+          (c.chosen_reads.ensures.reads g steps planes choice can);
+      within = within;
+    } in
+    c.in-Err.ensures.reads m.reads.stream (stream_of c.args.bytes.now d m)
 
 -- and one that is found
 
@@ -72,6 +85,16 @@ returns-in-Ok-clause-reads c e m =
     (c.in-Ok.ensures.reads m.reads.stream (stream_of c.args.bytes.now e m)))
     c.decode.ensures.decoded)
     c.decode.ensures.memory
+
+pub returns-in-Ok-clause-written : goal.returns-in-Ok-clause-written
+returns-in-Ok-clause-written c g steps planes choice can is within =
+    let d = chosen_decoding g steps planes choice in
+    returns-in-Ok-clause-reads c d
+    (record {
+      reads = subst (λ (bytes : List ℕ). Reads bytes d) (sym is)
+          (c.chosen_reads.ensures.reads g steps planes choice can);
+      within = within;
+    })
 
 pub returns-in-Ok-clause-refused : goal.returns-in-Ok-clause-refused
 returns-in-Ok-clause-refused c =
