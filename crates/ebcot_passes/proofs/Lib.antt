@@ -3,6 +3,8 @@ pub mod Blocks
 pub mod Cleanups
 pub mod ColumnLemmas
 pub mod Encoding
+pub mod LastPass
+pub mod LaterPasses
 pub mod Loading
 pub mod Places
 pub mod RunLemmas

@@ -3,3 +3,4 @@ pub mod Code
 pub mod Coding
 pub mod PassCoder
 pub mod Runs
+pub mod Left

@@ -1,11 +1,12 @@
 // Codes that are known from outside.
-ghost use Rattle.std.specs.Prelude.{◌≡◌, length};
+ghost use Rattle.std.specs.Prelude.{◌≡◌, ◌+◌, ◌*◌, ◌≤◌, length};
+ghost use Rattle.codeblock_views.specs.Magnitudes.{block_planes};
 
 use super::*;
 use arrayvec::ArrayVec;
 use band_geometry::Rect;
 use cine_nums::Orient;
-use codeblock_views::{BlockView, CoefPlane};
+use codeblock_views::{BlockView, CoefPlane, Coefs};
 use dz_quantiser::Coef;
 use mq_coder::{Encoder, Mark, ending};
 use std::test::Fail;
@@ -259,5 +260,86 @@ fn codes_no_pass_of_zeros(rt: HostRuntime) -> Result<(), Fail> {
     let mut bytes = [0; 77312];
     let coded = code(&block, Orient::HL, &mut bytes);
     assert_eq!(rt; (coded.planes, coded.passes.len(), coded.start), (0, 0, 0));
+    Ok(())
+}
+
+/// Goes on with a block for one pass where it has a further one, leaves it again, and overwrites
+/// the bytes that aren't needed for the next pass.
+fn code_one_pass<C: Coefs>(
+    left: &LeftBlock,
+    block: &C,
+    orient: Orient,
+    planes: u8,
+    bytes: &mut [u8; 16384],
+) -> LeftBlock
+    requires planes { planes ≡ block_planes (C.cells block.now) }
+    requires some_planes { 1 ≤ planes }
+    requires few_passes { left.now.passes + 2 ≤ 3 * planes }
+    ensures { result.passes + 2 ≤ 3 * planes }
+{
+    let mut coder = BlockCoder::go_on(left, block, orient, planes);
+    if coder.has_more() && coder.has_room(bytes) {
+        let _ = coder.code_pass(bytes);
+    }
+    let left = coder.leave();
+    for byte in bytes.iter_mut().skip(left.kept() as usize) {
+        *byte = 0xFF;
+    }
+    left
+}
+
+/// Codes so many passes of a block, which is left after each.
+fn code_in_turns<C: Coefs>(
+    block: &C,
+    orient: Orient,
+    passes: u32,
+    bytes: &mut [u8; 16384],
+) -> Option<LeftBlock> {
+    let planes = block.planes();
+    if planes == 0 {
+        return None;
+    }
+    let mut left = BlockCoder::load(block, orient, planes).leave();
+    for _ in 0..passes {
+        left = code_one_pass(&left, block, orient, planes, bytes);
+    }
+    Some(left)
+}
+
+#[test]
+fn goes_on_after_being_left(rt: HostRuntime) -> Result<(), Fail> {
+    let mut plane = CoefPlane::new(rt.alloc(), 3, 3)?;
+    plane.cells[0] = Coef::new(5, false);
+    plane.cells[2] = Coef::new(3, true);
+    plane.cells[4] = Coef::new(2, true);
+    plane.cells[6] = Coef::new(1, false);
+    plane.cells[8] = Coef::new(7, false);
+    let whole = Rect {
+        x: 0,
+        y: 0,
+        width: 3,
+        height: 3,
+    };
+    let block = BlockView::of(&plane, whole);
+    let rows = [
+        // C is 0x7FFF after SETBITS, shifted by 12 and put out twice
+        (0, [0xFF, 0x7F].as_slice(), 429),
+        (1, [0x03, 0xD7].as_slice(), 93),
+        (2, [0x03, 0xD7, 0xB4, 0x7F].as_slice(), 21),
+        (3, [0x03, 0xD7, 0xB4, 0x3F].as_slice(), 13),
+        (5, [0x03, 0xD7, 0xB4, 0x39].as_slice(), 4),
+        (7, [0x03, 0xD7, 0xB4, 0x3A, 0xAF].as_slice(), 0),
+    ];
+    for (passes, code, distortion) in rows {
+        let mut bytes = [0; 16384];
+        match code_in_turns(&block, Orient::HL, passes, &mut bytes) {
+            Some(left) => {
+                assert_eq!(rt; left.passes(), passes);
+                assert_eq!(rt; left.distortion(), distortion);
+                assert_eq!(rt; code_at(left.mark(), &bytes).as_slice(), code);
+            }
+            None => assert!(rt; false),
+        }
+    }
     Ok(())
 }
