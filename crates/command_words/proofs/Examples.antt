@@ -7,6 +7,7 @@ use Rattle.cine_nums.specs.declared.profile.Profile.TheVariants.{TwoK, FourK}
 use Rattle.cert_text.specs.Words.{profile_word}
 use Rattle.clap.specs.declared.error.kind.ErrorKind.TheVariants.{MissingRequiredArgument}
 use Rattle.clap.proofs.OnLiterals.{clap_on_literals}
+use Rattle.command_words.specs.Check.{check_command, AreCheck, IsCheck}
 use Rattle.command_words.specs.Encode.{encode_command, AreEncode, IsEncode}
 use Rattle.command_words.specs.Taken.{refusals, value_of}
 
@@ -59,3 +60,13 @@ limit_of_0 are =
 pub one_folder : AreEncode (codes "encode" ∷ codes "src" ∷ []) → ⊥
 unfolding refusals encode_command clap_on_literals
 one_folder are = let none : MissingRequiredArgument ∷ [] ≡ [] = are.4.taken in absurd cc
+
+-- check src
+pub checked : IsCheck (codes "check" ∷ codes "src" ∷ []) (codes "src")
+unfolding refusals value_of check_command clap_on_literals
+checked = record { mode = refl; taken = refl; source_is = refl }
+
+-- check
+pub no_folder : AreCheck (codes "check" ∷ []) → ⊥
+unfolding refusals check_command clap_on_literals
+no_folder are = let none : MissingRequiredArgument ∷ [] ≡ [] = are.1.taken in absurd cc

@@ -1,4 +1,6 @@
 pub mod Command
+pub mod DemoCommand
+pub mod DemoExamples
 pub mod Examples
 pub mod Matched
 pub mod Modes

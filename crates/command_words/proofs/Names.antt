@@ -5,6 +5,7 @@ use Rattle.budget_duals.specs.declared.limits.Limits.{Limits}
 use Rattle.cert_text.specs.Words.{profile_word}
 use Rattle.cine_nums.specs.declared.profile.Profile.{Profile}
 use Rattle.cine_nums.specs.declared.profile.Profile.TheVariants.{TwoK, FourK}
+use Rattle.command_words.specs.Check.{check_command, AreCheck}
 use Rattle.command_words.specs.Encode.{encode_command, AreEncode, NamesEncode}
 use Rattle.command_words.specs.Limits.{LimitsBy}
 use Rattle.command_words.specs.Taken.{value_of}
@@ -35,6 +36,14 @@ none_named P f words None same none = λ are.
     none are.0 are.1 are.2 are.3 (same_names (value_of encode_command words) f are.0 are.1 are.2
     are.3 (λ name. sym (same name)) are.4.names)
 none_named P f words (Some x) same found = tt
+
+-- the same of the mode `check`, whose one value is a folder
+pub no_folder : {T : Type 0} (P : T → Type 0) (value : Option (List ℕ)) (words : List (List ℕ))
+    (named : Option T) → value ≡ value_of check_command words (codes "source") →
+    MatchOption named ((source : List ℕ) → value ≡ Some source → ⊥) P →
+    IfNone named (AreCheck words → ⊥)
+no_folder P value words None same none = λ are. none are.0 (same ∙ are.1.source_is)
+no_folder P value words (Some x) same found = tt
 
 -- what holds of a value that was found
 pub of_found : {T : Type 0} (N : Type 0) (P : T → Type 0) (found : Option T) (x : T) →

@@ -1,6 +1,5 @@
 // The mode `encode`: encodes a folder of frames into a folder of codestreams.
-ghost use Rattle.std.specs.Prelude.{ℕ, ◌≡◌, ◌↔◌, List, Some, IfOk, IfSome, IfNone, IsTrue};
-ghost use Rattle.std.specs.Prelude.{MatchOption, slice_get};
+ghost use Rattle.std.specs.Prelude.{ℕ, ◌≡◌, List, IfOk, IfSome, IfNone, MatchOption};
 ghost use Rattle.budget_duals.specs.declared.limits.Limits.{Limits};
 ghost use Rattle.cert_text.specs.Words.{profile_word};
 ghost use Rattle.cine_nums.specs.declared.profile.Profile.{Profile};
@@ -10,7 +9,7 @@ ghost use Rattle.command_words.specs.Encode.{encode_command, AreEncode, IsEncode
 ghost use Rattle.command_words.specs.Taken.{texts};
 
 use crate::limits::lowered_limits;
-use crate::taken::{taken, with_option, with_positional, with_required_option};
+use crate::taken::{is_mode, taken, with_option, with_positional, with_required_option};
 use budget_duals::Limits;
 use cine_nums::Profile;
 use clap::{ArgMatches, Command};
@@ -42,7 +41,7 @@ fn encode_command<'a>(alloc: Global) -> Result<Command<'a>, AllocError>
 }
 
 /// The profile of a word, if it is one.
-fn profile_of(word: &str) -> Option<Profile>
+pub fn profile_of(word: &str) -> Option<Profile>
     ensures { MatchOption result ((profile : Profile) → word.now ≡ profile_word profile → ⊥)
         (λ profile. word.now ≡ profile_word profile) }
 {
@@ -76,16 +75,6 @@ fn named<'a>(matches: &ArgMatches<'a>) -> Option<EncodeWords<'a>>
         profile,
         limits,
     })
-}
-
-/// Whether the first word is this mode.
-fn is_mode(words: &[String], mode: &str) -> bool
-    ensures { IsTrue result ↔ (slice_get (texts words.now) 0 ≡ Some mode.now) }
-{
-    match words {
-        [first, ..] => first.as_str() == mode,
-        [] => false,
-    }
 }
 
 /// What the words name if they are a command of the mode `encode`, and None exactly if they are

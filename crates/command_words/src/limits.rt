@@ -17,7 +17,7 @@ fn has_plus(word: &str) -> bool
 }
 
 /// The number below 2^32 that a word spells in decimal digits, if it is one.
-fn number_of(word: &str) -> Option<u32>
+pub fn number_of(word: &str) -> Option<u32>
     ensures { MatchOption result
         (IsNumeral 10 word.now → digits_value 10 word.now < 2 ^ 32 → ⊥)
         (λ n. IsNumeral 10 word.now × (n ≡ digits_value 10 word.now)) }

@@ -1,5 +1,6 @@
 // What the command of a mode makes of the words.
-ghost use Rattle.std.specs.Prelude.{ℕ, ◌≡◌, List, [], IfOk, MatchOption, true};
+ghost use Rattle.std.specs.Prelude.{ℕ, ◌≡◌, ◌↔◌, List, [], Some, IfOk, IsTrue, MatchOption, true};
+ghost use Rattle.std.specs.Prelude.{slice_get};
 ghost use Rattle.clap.specs.Faults.{is_simple_and_free};
 ghost use Rattle.clap.specs.Matches.{first_value, found_of};
 ghost use Rattle.clap.specs.Simple.{app_of, with_rule};
@@ -9,6 +10,16 @@ ghost use Rattle.command_words.specs.Taken.{refusals, texts, value_of};
 use clap::error::ErrorKind;
 use clap::{Arg, ArgMatches, Command};
 use std::alloc::{AllocError, Global};
+
+/// Whether the first word is this mode.
+pub fn is_mode(words: &[String], mode: &str) -> bool
+    ensures { IsTrue result ↔ (slice_get (texts words.now) 0 ≡ Some mode.now) }
+{
+    match words {
+        [first, ..] => first.as_str() == mode,
+        [] => false,
+    }
+}
 
 /// The values of the words after the first one, if the command takes them.
 pub fn taken<'a>(

@@ -1,4 +1,4 @@
-use crate::{EncodeWords, Request, encode_words, request_of};
+use crate::{EncodeWords, Request, check_words, demo_words, encode_words, request_of};
 use budget_duals::Limits;
 use cine_nums::Profile;
 use std::alloc::{AllocError, Global};
@@ -73,6 +73,51 @@ fn commands_name_folders_profile_and_limits(rt: HostRuntime) -> Result<(), Fail>
     Ok(())
 }
 
+#[test]
+fn commands_name_a_folder_of_codestreams(rt: HostRuntime) -> Result<(), Fail> {
+    let alloc = rt.alloc();
+    for line in ["check src", "check -- src"] {
+        let words = words(alloc, line)?;
+        let found = check_words(alloc, words.as_slice())?.ok_or("no command")?;
+        assert_eq!(rt; found.source, "src");
+        assert!(rt; encode_words(alloc, words.as_slice())?.is_none());
+    }
+    Ok(())
+}
+
+/// Lines that name a number, a profile and limits, and what they name.
+#[rattlefmt::skip]
+const DEMOS: &[(&str, u32, Profile, u32, Option<u32>, u32)] = &[
+    ("demo 0 --profile 2k", 0, Profile::TwoK, 1302083, None, 1041666),
+    ("demo --profile 4k 4294967295", 4294967295, Profile::FourK, 1302083, Some(1302083), 1041666),
+    ("demo 007 --profile=2k --frame-bytes 349", 7, Profile::TwoK, 349, None, 1041666),
+    (
+        "demo --inner-bytes 8 --component-bytes=7 --profile 4k -- 12",
+        12, Profile::FourK, 1302083, Some(8), 7,
+    ),
+];
+
+#[test]
+fn commands_name_a_number(rt: HostRuntime) -> Result<(), Fail> {
+    let alloc = rt.alloc();
+    for (line, number, profile, frame, inner, component) in DEMOS {
+        let limits = Limits {
+            frame: *frame,
+            inner: *inner,
+            component: [*component; 3],
+        };
+        let words = words(alloc, line)?;
+        let found = demo_words(alloc, words.as_slice())?.ok_or("no command")?;
+        assert!(rt;
+            found.number == *number && found.profile == *profile && found.limits == limits,
+            "{line}"
+        );
+        assert!(rt; encode_words(alloc, words.as_slice())?.is_none());
+        assert!(rt; check_words(alloc, words.as_slice())?.is_none());
+    }
+    Ok(())
+}
+
 /// Lines that are no command.
 const OTHERS: &[&str] = &[
     "",
@@ -107,7 +152,33 @@ const OTHERS: &[&str] = &[
     "encode src dst --profile 4k --inner-bytes 1302084",
     "encode src dst 2k --profile",
     "Encode src dst --profile 2k",
+    "check",
+    "check --help",
+    "check src dst",
+    "check src --profile 2k",
     "check src dst --profile 2k",
+    "check --source src",
+    "Check src",
+    "demo",
+    "demo 1",
+    "demo --profile 2k",
+    "demo 1 --help --profile 2k",
+    "demo 1 --profile 3k",
+    "demo 1 2 --profile 2k",
+    "demo +1 --profile 2k",
+    "demo -1 --profile 2k",
+    "demo -- -1 --profile 2k",
+    "demo 1.0 --profile 2k",
+    "demo x --profile 2k",
+    "demo 4294967296 --profile 2k",
+    "demo 99999999999999999999 --profile 2k",
+    "demo src dst --profile 2k",
+    "demo 1 --profile 2k --profile 2k",
+    "demo 1 --profile 2k --frame-bytes 0",
+    "demo 1 --profile 2k --frame-bytes 1302084",
+    "demo 1 --profile 2k --inner-bytes 9",
+    "demo 1 --profile 4k --component-bytes 1041667",
+    "Demo 1 --profile 2k",
 ];
 
 #[test]
@@ -116,6 +187,8 @@ fn other_words_are_no_command(rt: HostRuntime) -> Result<(), Fail> {
     for line in OTHERS {
         let words = words(alloc, line)?;
         assert!(rt; encode_words(alloc, words.as_slice())?.is_none(), "{line}");
+        assert!(rt; check_words(alloc, words.as_slice())?.is_none(), "{line}");
+        assert!(rt; demo_words(alloc, words.as_slice())?.is_none(), "{line}");
     }
     Ok(())
 }

@@ -1,6 +1,6 @@
 use Rattle.std.proofs.Common.{arith}
 use Rattle.command_words.proofs.Modes.{first_is}
-use Rattle.command_words.proofs.encode.is_mode.Goals as goal
+use Rattle.command_words.proofs.taken.is_mode.Goals as goal
 
 pub returns-in-len1-up : goal.returns-in-len1-up
 returns-in-len1-up c =
