@@ -1,9 +1,13 @@
 pub mod Breaks
+pub mod Checked
 pub mod FreshNames
 pub mod Known
 pub mod Limits
+pub mod Meant
 pub mod Outputs
 pub mod Progress
 pub mod SaidLines
+pub mod Seen
 pub mod Stops
 pub mod Words
+pub mod WrittenRead

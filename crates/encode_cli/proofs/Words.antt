@@ -1,6 +1,7 @@
 -- What follows from the words of a command.
 use Rattle.std.proofs.Common.{◌≡◌, ◌≤◌, ℕ, List, [], ◌∷◌, Option, Some, None, IfSome, is_some}
 use Rattle.std.proofs.Common.{sym, subst, ap, arith}
+use Rattle.std.proofs.Common.{◌∙◌, codes, inl, inr, slice_index, unwrap_or}
 use Rattle.std.specs.Option.{ForSome}
 use Rattle.budget_duals.specs.Held.{limit_in}
 use Rattle.budget_duals.specs.declared.limits.Limits.{Limits}
@@ -11,18 +12,33 @@ use Rattle.cine_nums.specs.declared.profile.Profile.{Profile}
 use Rattle.cine_nums.specs.declared.profile.Profile.TheVariants.{TwoK, FourK}
 use Rattle.cine_ports.specs.Outputs.{Kept, kept_nothing}
 use Rattle.cine_ports.specs.Source.{Source}
+use Rattle.command_words.specs.Check.{AreCheck}
+use Rattle.command_words.specs.Encode.{AreEncode}
 use Rattle.command_words.specs.Limits.{InnerBy, LimitBy, LimitsBy}
 use Rattle.frame_encoder.specs.Orders.{AreLimitsFor}
 use Rattle.frame_encoder.specs.declared.order.EncodeOrder.{EncodeOrder}
 use Rattle.encode_cli.specs.Arguments.{AreCommand, IsEncode}
 use Rattle.encode_cli.specs.Right.{Right, RightByName}
+use Rattle.encode_cli.specs.RightCheck.{RightCheck, RightCheckByName}
 use Rattle.encode_cli.specs.Run.{RunBrokeOff}
 use Rattle.encode_cli.proofs.Progress.{none_broken, run_broken}
 
 -- words for which there is an order are a command
 pub is_command : (words : List (List ℕ)) (order : EncodeOrder) → IsEncode words order →
     AreCommand words
-is_command words order is = (is.source, is.target, order.profile, order.limits, is.command)
+is_command words order is = inl (is.source, is.target, order.profile, order.limits, is.command)
+
+-- and so are those of a check
+pub check_is_command : (words : List (List ℕ)) → AreCheck words → AreCommand words
+check_is_command words are = inr are
+
+-- no words are a command of both modes
+pub modes_apart : (words : List (List ℕ)) → AreEncode words → AreCheck words → ⊥
+modes_apart words encode check =
+    let same : codes "encode" ≡ codes "check" = ap (λ (o : Option (List ℕ)). unwrap_or o [])
+    (sym encode.4.mode ∙ check.1.mode) in
+    let bad : 101 ≡ 99 = ap (λ (w : List ℕ). slice_index w 0) same in
+    absurd (omega (arith, bad))
 
 -- a limit by words isn't above the largest
 is_low : (most : ℕ) (word : Option (List ℕ)) (limit : ℕ) → LimitBy most word limit → limit ≤ most
@@ -74,7 +90,7 @@ allowed words order is = lowered order.profile _ _ _ order.limits is.command.nam
 -- a run of a command that ended before its source was listed
 pub unread_broken : (words : List (List ℕ)) (suffix : List ℕ) (source : Source) (asked : ℕ)
     (k : Option Kept) (s : Option (List ℕ)) → asked ≡ 0 →
-    ForSome k (λ kept. kept ≡ kept_nothing) → ForSome s (λ said. said ≡ []) → AreCommand words →
+    ForSome k (λ kept. kept ≡ kept_nothing) → ForSome s (λ said. said ≡ []) → AreEncode words →
     (order : EncodeOrder) × IsEncode words order
     × RunBrokeOff (RightByName order suffix) (Right order suffix) source asked k s
 unread_broken words suffix source asked k s first none nothing command =
@@ -85,3 +101,11 @@ unread_broken words suffix source asked k s first none nothing command =
           (none_broken (RightByName order suffix) (Right order suffix) source asked k s first none
           nothing),
     )
+
+-- and one of a check
+pub unread_check : (source : Source) (asked : ℕ) (k : Option Kept) (s : Option (List ℕ)) →
+    asked ≡ 0 → ForSome k (λ kept. kept ≡ kept_nothing) → ForSome s (λ said. said ≡ []) →
+    RunBrokeOff RightCheckByName RightCheck source asked k s
+unread_check source asked k s first none nothing =
+    run_broken RightCheckByName RightCheck source asked k k s s
+    (none_broken RightCheckByName RightCheck source asked k s first none nothing)

@@ -1,10 +1,13 @@
 -- What the words after the program's name order.
-use Rattle.std.specs.Prelude.{ℕ, ◌≡◌, List, Some, option_map, string_bytes, codes}
+use Rattle.std.specs.Prelude.{ℕ, ◌≡◌, ◌⊎◌, List, Some, None, option_map, string_bytes, codes}
 use Rattle.budget_duals.specs.declared.limits.Limits.{Limits}
 use Rattle.cine_nums.specs.declared.profile.Profile.{Profile}
+use Rattle.command_words.specs.Check.{AreCheck, IsCheck}
 use Rattle.command_words.specs.Encode as words_of
 use Rattle.frame_encoder.specs.declared.order.EncodeOrder.{EncodeOrder}
 use Rattle.encode_cli.specs.declared.arguments.FolderWords.{FolderWords}
+use Rattle.encode_cli.specs.declared.arguments.Order.{Order}
+use Rattle.encode_cli.specs.declared.arguments.Order.TheVariants.{Encode, Check}
 
 -- the suffixes of frames and of codestreams
 abbrev pub frame_suffix : List ℕ
@@ -13,18 +16,23 @@ frame_suffix = codes ".ppm"
 abbrev pub codestream_suffix : List ℕ
 codestream_suffix = codes ".j2c"
 
--- The words are a command: one of the mode `encode`.
+-- The words are a command: one of the mode `encode`, or one of the mode `check`.
 abbrev pub AreCommand : List (List ℕ) → Type 0
-AreCommand words = words_of.AreEncode words
+AreCommand words = words_of.AreEncode words ⊎ AreCheck words
 
--- They are, and the order is for their profile, with their limits.
+-- They are one of the mode `encode`, and the order is for their profile, with their limits.
 pub record IsEncode (words : List (List ℕ)) (order : EncodeOrder) : Type 0 where
   pub source : List ℕ
   pub target : List ℕ
   pub command : words_of.IsEncode words source target order.profile order.limits
 
--- the folders of that command: its source and target, and the suffix of frames
-pub record AreFoldersOf (words : List (List ℕ)) (folders : FolderWords) : Type 0 where
+-- the words order this
+abbrev pub IsOrder : List (List ℕ) → Order → Type 0
+IsOrder words (Encode order) = IsEncode words order
+IsOrder words Check = AreCheck words
+
+-- the folders of a command of the mode `encode`: its source and target, and the suffix of frames
+pub record AreEncodeFoldersOf (words : List (List ℕ)) (folders : FolderWords) : Type 0 where
   pub source : List ℕ
   pub target : List ℕ
   pub profile : Profile
@@ -33,3 +41,15 @@ pub record AreFoldersOf (words : List (List ℕ)) (folders : FolderWords) : Type
   pub has_source : option_map string_bytes folders.source ≡ Some source
   pub has_target : option_map string_bytes folders.target ≡ Some target
   pub has_suffix : string_bytes folders.suffix ≡ frame_suffix
+
+-- of the mode `check`: its source alone, and the suffix of codestreams
+pub record AreCheckFoldersOf (words : List (List ℕ)) (folders : FolderWords) : Type 0 where
+  pub source : List ℕ
+  pub command : IsCheck words source
+  pub has_source : option_map string_bytes folders.source ≡ Some source
+  pub no_target : folders.target ≡ None
+  pub has_suffix : string_bytes folders.suffix ≡ codestream_suffix
+
+-- the folders of the command
+abbrev pub AreFoldersOf : List (List ℕ) → FolderWords → Type 0
+AreFoldersOf words folders = AreEncodeFoldersOf words folders ⊎ AreCheckFoldersOf words folders

@@ -1,11 +1,13 @@
--- The promises of `run`: Run, in the words of Right (which visits are right), Visit (what a visit
--- does and where it can break off), ReportLine, Widths and Refused (the lines) and Arguments (which
--- words are a command).
+-- The promises of `run`: Run, in the words of Right and RightCheck (which visits are right in the
+-- two modes), Visit (what a visit does and where it can break off), ReportLine, Widths, Refused and
+-- StreamRefused (the lines) and Arguments (which words are a command).
 pub mod Run
 pub mod Right
+pub mod RightCheck
 pub mod Visit
 pub mod ReportLine
 pub mod Refused
+pub mod StreamRefused
 pub mod Widths
 pub mod Arguments
 -- The inside of the crate: what its steps leave.

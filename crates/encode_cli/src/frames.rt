@@ -90,8 +90,8 @@ fn visit_frame<F: Frames, O: Outputs, S: Report>(
     }
 }
 
-/// Whether one or the other holds: a call, so that the loop over the frames can cite its clause.
-fn either(one: bool, other: bool) -> bool
+/// Whether one or the other holds: a call, so that a loop over files can cite its clause.
+pub fn either(one: bool, other: bool) -> bool
     ensures { result ≡ (one || other) }
 {
     one || other

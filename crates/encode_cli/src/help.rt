@@ -4,11 +4,13 @@ use command_words::{Request, request_of};
 /// How the program is used.
 const HELP: &str = "\
 Encodes digital cinema frames as JPEG 2000 codestreams, within the byte limits of
-DCI at 24 frames per second, and prints a line for each frame.
+DCI at 24 frames per second, or checks codestreams, and prints a line for each file.
 
   encode SRC DST     encodes each file of the folder SRC whose name ends in .ppm (binary
                      PPM, maxval 4095, samples X'Y'Z') into the folder DST, which is made
                      where it isn't there. NAME.ppm becomes NAME.j2c
+  check SRC          reads each file of the folder SRC whose name ends in .j2c, whoever
+                     wrote it, and says what it holds or its first fault. Writes no file
 
 Options of encode, written '--profile 2k' or '--profile=2k', before or after the folders:
 
@@ -21,11 +23,12 @@ Options of encode, written '--profile 2k' or '--profile=2k', before or after the
 Options lower the limits of DCI and never raise them. Words after -- are folders, even
 if they begin with -.
 
-Statuses: 0 each frame was encoded; 1 some frame was refused, and its line says why;
-2 these words are no command; 3 SRC, 4 DST, 5 standard output failed; 6 out of memory.
+Statuses: 0 no file was refused; 1 some file was refused, and its line says why; 2 these
+words are no command; 3 SRC, 4 DST, 5 standard output failed; 6 out of memory.
 
   cinema encode frames out --profile 2k
   cinema encode frames out --profile 4k --frame-bytes 1200000
+  cinema check out
 
 The manual page is docs/cinema.1 of the source: man ./docs/cinema.1
 ";

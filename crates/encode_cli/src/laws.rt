@@ -1,5 +1,5 @@
-// What the promises of a run and of the reader of certificate lines give together. A call of a law
-// does nothing and gives the caller its clause.
+// What the promises of a run give together with those of the reader of certificate lines, and those
+// of its two modes. A call of a law does nothing and gives the caller its clause.
 ghost use Rattle.std.specs.Prelude.{ℕ, ◌≡◌, ◌≢◌, List, []};
 ghost use Rattle.cert_text.specs.Lines.{cert_line};
 ghost use Rattle.cert_text.specs.Reading.{IsSaid};
@@ -11,6 +11,7 @@ ghost use Rattle.frame_encoder.specs.declared.order.EncodeOrder.{EncodeOrder};
 ghost use Rattle.encode_cli.specs.Arguments.{IsEncode};
 ghost use Rattle.encode_cli.specs.ReportLine.{IsCertOf};
 ghost use Rattle.encode_cli.specs.Right.{IsAccepted};
+ghost use Rattle.encode_cli.specs.RightCheck.{IsReadable, RightCheck};
 ghost use Rattle.encode_cli.specs.Visit.{Visit};
 
 /// The line of an encoding under a name that isn't empty says no more than a certificate line may
@@ -25,4 +26,14 @@ pub fn said_lines()
         (p : Picture) (visit : Visit) → IsEncode words order →
         (accepted : IsAccepted order suffix name p visit) → name ≢ [] →
         IsSaid accepted.says × (visit.line ≡ cert_line accepted.says) }
+{}
+
+/// What a run of the mode `encode` writes is read by one of the mode `check`, under whatever name
+/// the file has there: a visit of this file is right only if it is that of a codestream.
+pub fn written_is_read()
+    ensures { (words : List (List ℕ)) (order : EncodeOrder) (suffix name : List ℕ)
+        (p : Picture) (visit : Visit) → IsEncode words order →
+        (accepted : IsAccepted order suffix name p visit) → (file : List ℕ) (checked : Visit) →
+        RightCheck (record { name = file; bytes = accepted.encoding.bytes }) checked →
+        IsReadable file accepted.encoding.bytes checked }
 {}

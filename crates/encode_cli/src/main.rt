@@ -1,6 +1,7 @@
 //! The program `cinema`: encodes a folder of 12-bit X'Y'Z' frames (ppm(5), magic P6, maxval 4095)
 //! into JPEG 2000 codestreams of a digital cinema profile, 2K or 4K (ISO/IEC 15444-1), one for each
-//! frame, within the byte limits of the DCI Digital Cinema System Specification.
+//! frame, within the byte limits of the DCI Digital Cinema System Specification; and checks a folder
+//! of codestreams, whoever wrote them.
 //!
 //! `run` promises what is written, what is said and why a run ended. `run_program` makes its
 //! objects and the exit status, and `main` only gives it the words.
@@ -8,10 +9,14 @@
 //! ```text
 //! cinema encode frames out --profile 2k
 //! cinema encode frames out --profile 4k --frame-bytes 1200000
+//! cinema check out
 //! ```
 #![tactic(auto)]
 
 mod arguments;
+mod check;
+#[cfg(test)]
+mod check_tests;
 mod frame;
 mod frames;
 mod help;
@@ -22,8 +27,10 @@ mod refusal;
 mod report_line;
 mod run;
 mod stop;
+mod stream_refused;
 #[cfg(test)]
 mod tests;
+mod verdict;
 mod widths;
 
 use program::run_program;

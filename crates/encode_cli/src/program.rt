@@ -16,7 +16,7 @@ use system_ports::{FolderFrames, FolderOutputs, StdoutReport};
 /// What standard error says at the end of a run with this status, if anything.
 fn message(status: u8) -> Option<&'static str> {
     match status {
-        2 => Some("usage: cinema encode SRC DST --profile 2k|4k"),
+        2 => Some("usage: cinema encode SRC DST --profile 2k|4k | check SRC"),
         3 => Some("source failed"),
         4 => Some("output failed"),
         5 => Some("report failed"),
@@ -160,6 +160,9 @@ mod tests {
             "encode test-status/src test-status/src/a.ppm --profile 2k",
             "ExitCode(unix_exit_status(4))",
         ),
+        ("check test-status/dst", "ExitCode(unix_exit_status(0))"),
+        ("check test-status/cut", "ExitCode(unix_exit_status(1))"),
+        ("check test-status/none", "ExitCode(unix_exit_status(3))"),
     ];
 
     #[test]
@@ -170,6 +173,8 @@ mod tests {
         fs::create_dir_all(&rt, "test-status/deep")?;
         fs::write(&rt, "test-status/src/a.ppm", GREY)?;
         fs::write(&rt, "test-status/deep/a.ppm", DEEP)?;
+        fs::create_dir_all(&rt, "test-status/cut")?;
+        fs::write(&rt, "test-status/cut/a.j2c", b"\xFF\x4F")?;
         for (line, want) in STATUSES {
             let mut words = Vec::new(alloc);
             for word in line.split_whitespace() {

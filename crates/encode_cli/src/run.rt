@@ -3,12 +3,16 @@ ghost use Rattle.std.specs.Prelude.{◌≡◌, ◌≤◌, ◌⊎◌, ◌==◌, i
 ghost use Rattle.std.specs.Option.{ForSome};
 ghost use Rattle.cine_ports.specs.Outputs.{kept_nothing};
 ghost use Rattle.frame_encoder.specs.declared.order.EncodeOrder.{EncodeOrder};
+ghost use Rattle.command_words.specs.Check.{AreCheck};
+ghost use Rattle.command_words.specs.Encode.{AreEncode};
 ghost use Rattle.command_words.specs.Taken.{texts};
 ghost use Rattle.encode_cli.specs.Arguments.{codestream_suffix, AreCommand, IsEncode};
 ghost use Rattle.encode_cli.specs.Right.{Right, RightByName};
+ghost use Rattle.encode_cli.specs.RightCheck.{RightCheck, RightCheckByName};
 ghost use Rattle.encode_cli.specs.Run.{Leaves, AreShort, RunBrokeOff};
 
-use crate::arguments::order_of;
+use crate::arguments::{Order, order_of};
+use crate::check::check_files;
 use crate::frames::visit_frames;
 use cine_ports::{Frames, Outputs, Report};
 use std::alloc::{AllocError, Global};
@@ -20,10 +24,11 @@ fn visited_status(some_refused: bool) -> u8
     if some_refused { 1 } else { 0 }
 }
 
-/// Encodes each frame of a source: its codestream goes to the outputs under the frame's name and
-/// `.j2c`, and then its certificate line to the report. A frame that is refused has a line alone:
-/// its file is no frame, or a limit of the words is too small for its codestream without any coding
-/// pass.
+/// Encodes each frame of a source, or checks each codestream.
+///
+/// In the mode `encode` a frame's codestream goes to the outputs under the frame's name and `.j2c`,
+/// and then its certificate line to the report. A frame that is refused has a line alone: its file
+/// is no frame, or a limit of the words is too small for its codestream without any coding pass.
 ///
 /// For every accepted frame, unless source, outputs, report or memory fail, `visited` promises (each
 /// sentence is the field in brackets, of `Encodes` in frame_encoder/specs/Encoded.antt):
@@ -43,7 +48,13 @@ fn visited_status(some_refused: bool) -> u8
 ///
 /// The byte limits are those of the profile, or lower ones where the words have options for them.
 ///
-/// Returns the status: 0 where all frames were visited and none was refused, 1 where all were and
+/// In the mode `check` a file is a codestream of any writer, of which one byte more is read than a
+/// codestream may have. `checked` promises: where these bytes mean something, within all byte limits
+/// of their profile (`means` of `IsReadable` in specs/RightCheck.antt), the line has what is decoded
+/// of them and what they hold; else it has their first fault in reading order, with its place
+/// (`fault` of `IsUnreadable`). No call of the outputs is made.
+///
+/// Returns the status: 0 where all files were visited and none was refused, 1 where all were and
 /// some was, 2 where the words are no command, 3, 4 and 5 where a call of the source, the
 /// outputs and the report failed, and 6 where memory ran out. A failed call ends the run at once,
 /// and so does out of memory; an object of which a call has failed isn't called again.
@@ -68,23 +79,34 @@ pub fn run<F: Frames, O: Outputs, S: Report>(
     // nothing was called then. Words that are one never end with 2.
     ensures command { AreCommand (texts words.now) → result ≡ 2 → ⊥ }
     ensures no_command { (AreCommand (texts words.now) → ⊥) → (result ≡ 2) ⊎ (result ≡ 6) }
+    ensures ordered { (result ≡ 2 → ⊥) → (result ≡ 6 → ⊥) → AreCommand (texts words.now) }
     ensures untouched { (AreCommand (texts words.now) → ⊥) →
         (frames.new ≡ frames.old) × (outputs.new ≡ outputs.old) × (report.new ≡ report.old) }
 
-    // Status 0 or 1: every frame has a right visit, with its output and its line, in order, and
-    // nothing is unfinished. A visit of an accepted frame is right only if it is that of an
-    // encoding with all that is promised above. What is said by the listed names holds of a real
+    // Status 0 or 1 of `encode`: every frame has a right visit, with its output and its line, in
+    // order, and nothing is unfinished. A visit of an accepted frame is right only if it is that of
+    // an encoding with all that is promised above. What is said by the listed names holds of a real
     // folder too, and what is said by the files where they are known.
-    ensures visited { result ≤ 1 → (order : EncodeOrder) × IsEncode (texts words.now) order
+    ensures visited { AreEncode (texts words.now) → result ≤ 1 →
+        (order : EncodeOrder) × IsEncode (texts words.now) order
         × Leaves (RightByName order codestream_suffix) (Right order codestream_suffix)
         (F.source frames.new) (O.kept outputs.new) (S.said report.new) result }
 
-    // Status 3 to 5, and 6 for a command: the run broke off at the frame that was asked for last.
-    ensures stopped { 3 ≤ result → (result ≡ 6 → AreCommand (texts words.now)) →
+    // Status 3 to 6: the run broke off at the frame that was asked for last.
+    ensures stopped { AreEncode (texts words.now) → 3 ≤ result →
         (order : EncodeOrder) × IsEncode (texts words.now) order
         × RunBrokeOff (RightByName order codestream_suffix) (Right order codestream_suffix)
         (F.source frames.new) (F.reading frames.new).asked (O.kept outputs.new)
         (S.said report.new) }
+
+    // The same of `check`, which leaves the outputs alone.
+    ensures checked { AreCheck (texts words.now) → result ≤ 1 →
+        Leaves RightCheckByName RightCheck (F.source frames.new) (O.kept outputs.new)
+        (S.said report.new) result }
+    ensures check_stopped { AreCheck (texts words.now) → 3 ≤ result →
+        RunBrokeOff RightCheckByName RightCheck (F.source frames.new)
+        (F.reading frames.new).asked (O.kept outputs.new) (S.said report.new) }
+    ensures check_writes_nothing { AreCheck (texts words.now) → outputs.new ≡ outputs.old }
 
     // No run changes the source's files.
     ensures files { (F.source frames.new).files ≡ (F.source frames.old).files }
@@ -105,8 +127,16 @@ pub fn run<F: Frames, O: Outputs, S: Report>(
     let Some(order) = found else {
         return 2;
     };
-    match visit_frames(alloc, &order, ".j2c", frames, outputs, report) {
-        Ok(some_refused) => visited_status(some_refused),
-        Err(stop) => stop.status(),
+    match order {
+        Order::Encode(order) => {
+            match visit_frames(alloc, &order, ".j2c", frames, outputs, report) {
+                Ok(some_refused) => visited_status(some_refused),
+                Err(stop) => stop.status(),
+            }
+        }
+        Order::Check => match check_files(alloc, frames, report) {
+            Ok(some_refused) => visited_status(some_refused),
+            Err(stop) => stop.status(),
+        },
     }
 }

@@ -2,6 +2,7 @@
 ghost use Rattle.std.specs.Prelude.{◌≤◌};
 
 use crate::arguments::places;
+use crate::check_tests::checked;
 use crate::run::run;
 use cine_ports::{MemoryFrame, MemoryFrames, MemoryOutputs, MemoryReport, is_frame_list};
 use std::alloc::{AllocError, Global};
@@ -30,7 +31,7 @@ const NEARLY_GREY: &[u8] = b"P6\n1 1\n4095\n\x08\x01\x08\x01\x08\x01";
 /// The codestream of a frame of one pixel. The bytes come from a dump that was made by two programs
 /// which share no code with this one.
 #[rattlefmt::skip]
-const CODESTREAM: &[u8] = &[
+pub const CODESTREAM: &[u8] = &[
     0xFF, 0x4F,
     0xFF, 0x51, 0x00, 0x2F, 0x00, 0x03, 0x00, 0x00, 0x00, 0x01, 0x00, 0x00, 0x00, 0x01,
     0x00, 0x00, 0x00, 0x00, 0x00, 0x00, 0x00, 0x00, 0x00, 0x00, 0x00, 0x01, 0x00, 0x00, 0x00, 0x01,
@@ -68,9 +69,15 @@ ok b 2k 1x1 frame=197/1302083/0 c0=26/1041666/0 c1=20/1041666/0 c2=20/1041666/0 
 ok c 2k 1x1 frame=195/1302083/0 c0=24/1041666/0 c1=20/1041666/0 c2=20/1041666/0 passes=51 empty=68720001025 distortion=0 gap=0\n\
 ok d 2k 1x1 frame=195/1302083/0 c0=24/1041666/0 c1=20/1041666/0 c2=20/1041666/0 passes=18 empty=16641 distortion=0 gap=0\n";
 
+/// What a check of their codestreams reports.
+const READ_PASSES: &str = "\
+read b 2k 1x1 levels=5 frame=197 c0=26 c1=20 c2=20 blocks=1 passes=48\n\
+read c 2k 1x1 levels=5 frame=195 c0=24 c1=20 c2=20 blocks=1 passes=51\n\
+read d 2k 1x1 levels=5 frame=195 c0=24 c1=20 c2=20 blocks=1 passes=18\n";
+
 /// What follows the first 108 bytes of a nearly grey frame's codestream, from the TLM segment on.
 #[rattlefmt::skip]
-const NEARLY_GREY_PARTS: &[u8] = &[
+pub const NEARLY_GREY_PARTS: &[u8] = &[
     0xFF, 0x55, 0x00, 0x13, 0x00, 0x50, 0x00, 0x00, 0x00, 0x00, 0x18, 0x00, 0x00, 0x00, 0x00, 0x14,
     0x00, 0x00, 0x00, 0x00, 0x14,
     0xFF, 0x90, 0x00, 0x0A, 0x00, 0x00, 0x00, 0x00, 0x00, 0x18, 0x00, 0x03, 0xFF, 0x93,
@@ -84,7 +91,7 @@ const NEARLY_GREY_PARTS: &[u8] = &[
 const COMMAND: &str = "encode src dst --profile 2k";
 
 /// The words of a line.
-fn words(alloc: Global, text: &str) -> Result<Vec<String>, AllocError> {
+pub fn words(alloc: Global, text: &str) -> Result<Vec<String>, AllocError> {
     let mut words = Vec::new(alloc);
     for word in text.split_whitespace() {
         words.push(String::from_str(alloc, word)?)?;
@@ -93,7 +100,7 @@ fn words(alloc: Global, text: &str) -> Result<Vec<String>, AllocError> {
 }
 
 /// A file in memory.
-fn file(alloc: Global, name: &str, bytes: &[u8]) -> Result<MemoryFrame, AllocError> {
+pub fn file(alloc: Global, name: &str, bytes: &[u8]) -> Result<MemoryFrame, AllocError> {
     Ok(MemoryFrame {
         name: String::from_str(alloc, name)?,
         bytes: Vec::from_slice(alloc, bytes)?,
@@ -102,14 +109,14 @@ fn file(alloc: Global, name: &str, bytes: &[u8]) -> Result<MemoryFrame, AllocErr
 
 /// What a run leaves.
 #[derive(Drop)]
-struct Ended {
-    status: u8,
-    outputs: MemoryOutputs,
-    report: MemoryReport,
+pub struct Ended {
+    pub status: u8,
+    pub outputs: MemoryOutputs,
+    pub report: MemoryReport,
 }
 
 /// Runs over frames in memory, of whose calls those of these numbers fail.
-fn run_over(
+pub fn run_over(
     alloc: Global,
     text: &str,
     files: Vec<MemoryFrame>,
@@ -175,6 +182,7 @@ fn a_line_has_the_passes_and_the_distortions(rt: HostRuntime) -> Result<(), Fail
     let mut bytes = Vec::from_slice(alloc, &CODESTREAM[..108])?;
     bytes.extend_from_slice(NEARLY_GREY_PARTS)?;
     assert!(rt; is_file(ended.outputs.files().get(2), "d.j2c", bytes.as_slice()));
+    assert_eq!(rt; checked(alloc, &ended.outputs)?.as_str(), READ_PASSES);
     Ok(())
 }
 
@@ -231,6 +239,18 @@ fn a_busy_frame_has_multipliers_and_refused_steps(rt: HostRuntime) -> Result<(),
         (second.bytes().len(), digest(second.bytes())),
         (1041827, 3253985087)
     );
+    let read = checked(alloc, &ended.outputs)?;
+    let (of_h, of_i) = read.as_str().split_once('\n').ok_or("one line")?;
+    assert!(rt;
+        of_h.starts_with(
+            "read h 2k 600x600 levels=5 frame=1301957 c0=435464 c1=430390 c2=435972 blocks="
+        )
+    );
+    assert!(rt; of_h.ends_with(" passes=33417"));
+    assert!(rt;
+        of_i.starts_with("read i 2k 900x900 levels=5 frame=1041827 c0=1041620 c1=38 c2=38 blocks=")
+    );
+    assert!(rt; of_i.ends_with(" passes=25133\n"));
     Ok(())
 }
 
@@ -324,6 +344,7 @@ fn other_words_are_no_command(rt: HostRuntime) -> Result<(), Fail> {
         "encode src dst 2k --profile",
         "encode src dst --profile 4",
         "Encode src dst --profile 2k",
+        "check",
         "check src dst --profile 2k",
     ] {
         let ended = run_over(alloc, text, Vec::new(alloc), &[], &[])?;

@@ -18,3 +18,11 @@ returns-in-Ok-run_words-clause-no_command c =
     (c.in-Ok-run_words.ensures.no_command
     (subst (λ items. AreCommand (texts items) → ⊥) (sym c.as_slice.ensures.value) none))
     c.end.ensures not_two)
+
+pub returns-in-Ok-run_words-clause-command : goal.returns-in-Ok-run_words-clause-command
+returns-in-Ok-run_words-clause-command c =
+    subst (λ words. IfOk words (λ words. AreCommand (texts words.items)
+    → exit_status c.end.result ≡ 2 → ⊥)) (sym c.in-Ok.is)
+    (λ are two. c.in-Ok-run_words.ensures.command
+    (subst (λ items. AreCommand (texts items)) (sym c.as_slice.ensures.value) are)
+    (sym c.end.ensures ∙ two))
