@@ -2,7 +2,9 @@
 // the lines come from programs that share no code with this one.
 use crate::run::run;
 use crate::tests::{CODESTREAM, NEARLY_GREY_PARTS, file, run_over, words};
-use cine_ports::{MemoryFrame, MemoryOutputs, MemoryReport, NullOutputs, SteadyFrames};
+use cine_ports::{
+    MemoryFrame, MemoryOutputs, MemoryReport, NullOutputs, SteadyFrames, is_frame_list,
+};
 use std::alloc::{AllocError, Global};
 use std::test::Fail;
 
@@ -150,7 +152,11 @@ fn a_failed_read_ends_a_check(rt: HostRuntime) -> Result<(), Fail> {
 #[test]
 fn a_failed_line_ends_a_check(rt: HostRuntime) -> Result<(), Fail> {
     let alloc = rt.alloc();
-    let mut frames = SteadyFrames::new(only(alloc, CODESTREAM)?);
+    let files = only(alloc, CODESTREAM)?;
+    if !is_frame_list(files.as_slice()) {
+        return Err(Fail::new("the names aren't in order"));
+    }
+    let mut frames = SteadyFrames::new(files);
     let mut report = MemoryReport::new(alloc, vec![in alloc; 1]?, 10);
     let words = words(alloc, COMMAND)?;
     let status = run(
