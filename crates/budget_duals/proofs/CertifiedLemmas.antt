@@ -56,6 +56,17 @@ can_take_refused w steps o most settled certificate long can j s e =
           (sym (settled.kept.splits b inside)) (can.to b below)));
     }
 
+-- what stands of all steps stands of one that closed a budget
+pub all_refused : (w : Budgets) (steps : ℕ → List Step) (o : Outcome) (P : Step → Type 0)
+    → IsSettled w steps o → ((b : ℕ) → b < w.blocks → AllByRecursion P (steps b))
+    → (j : ℕ) (s : Step) → o.closed j ≡ Some s → P s
+all_refused w steps o P settled all j s e =
+    let b : ℕ = s.block in
+    let inside : b < w.blocks = settled.kept.inside j s e in
+    at_head P s (o.left b) (settled.kept.heads j s e)
+    (all_after P (o.done b) (o.left b)
+    (subst (AllByRecursion P) (sym (settled.kept.splits b inside)) (all b inside)))
+
 -- what was taken gains no more than all steps
 pub taken_gains : (w : Budgets) (steps : ℕ → List Step) (o : Outcome) → IsSettled w steps o
     → upto w.blocks (λ b. gains (o.done b)) ≤ upto w.blocks (λ b. gains (steps b))

@@ -196,3 +196,8 @@ two_ready limits base m n xs ys steps start e =
       members = members_at limits.inner m n (member limits.inner m one) (member limits.inner n two);
       none = none_held limits.inner held inner;
     }
+
+-- two blocks ask nothing of a step
+pub all_known : (steps : List Step) → AllByRecursion (λ (s : Step). Unit {0}) steps
+all_known [] = tt
+all_known (s ∷ rest) = (tt, all_known rest)

@@ -69,6 +69,15 @@ module _ (w : Budgets) (steps : ℕ → List HullStep) (most : List ℕ) (o : Ou
           falls_left (o.done b) (o.left b)
           (subst IsFalling (sym (splits b inside)) (can.fall b (in_most b inside)))
 
+      -- what stands of all steps stands of it
+      pub top_all : (P : HullStep → Type 0)
+          → ((b : ℕ) → b < w.blocks → AllByRecursion P (steps b)) → P s
+      top_all P all =
+          at_head P s (o.left x.block) top_head
+          (all_after P (o.done x.block) (o.left x.block)
+          (subst (AllByRecursion P) (sym (splits x.block top_entry.inside))
+          (all x.block top_entry.inside)))
+
       pub top_next : IsUpperBound entry_cmp x rest → nearest w o x.block ≡ None → IsNextStep w o s
       top_next upper is_open =
           let h = head_is s (o.left x.block) top_head in (

@@ -6,6 +6,7 @@ ghost use Rattle.allocation_bound.specs.Settled.{AreBudgets};
 ghost use Rattle.allocation_bound.specs.Steps.{Agrees, excess, lens};
 ghost use Rattle.allocation_bound.specs.Sums.{upto};
 ghost use Rattle.std.specs.BinaryHeap.{heap_items, heap_len, heap_capacity, IsHeap};
+ghost use Rattle.std.specs.List.{AllByRecursion};
 ghost use Rattle.budget_duals.specs.Allocated.{IsAllocated};
 ghost use Rattle.budget_duals.specs.Entries.{entry_cmp};
 ghost use Rattle.budget_duals.specs.Sums.{rate_by};
@@ -97,6 +98,8 @@ fn settle<O: Offers, H: Holdings>(
     requires counts { (b : ℕ) → b < O.blocks offers.old → get_or (H.chosen held.old) b 0 ≡ 0 }
     requires done { (b : ℕ) → b < O.blocks offers.old → O.done offers.old b ≡ [] }
     requires can { CanWalk (H.most held.old) (O.left offers.old) }
+    requires known { (b : ℕ) → b < O.blocks offers.old →
+        AllByRecursion (H.knows held.old) (O.left offers.old b) }
     requires bytes { upto (O.blocks offers.old) (λ b. lens (O.left offers.old b)) < 2 ^ 64 }
     requires budgets { AreBudgets
         (budgets_of tree.now (O.blocks offers.old) (H.node_of held.old) (H.held_by held.old)) }
@@ -147,6 +150,8 @@ pub fn allocate_over<O: Offers, H: Holdings>(
     requires counts { (b : ℕ) → b < O.blocks offers.old → get_or (H.chosen held.old) b 0 ≡ 0 }
     requires done { (b : ℕ) → b < O.blocks offers.old → O.done offers.old b ≡ [] }
     requires can { CanWalk (H.most held.old) (O.left offers.old) }
+    requires known { (b : ℕ) → b < O.blocks offers.old →
+        AllByRecursion (H.knows held.old) (O.left offers.old b) }
     requires bytes { upto (O.blocks offers.old) (λ b. lens (O.left offers.old b)) < 2 ^ 64 }
     requires budgets { AreBudgets
         (budgets_of tree.now (O.blocks offers.old) (H.node_of held.old) (H.held_by held.old)) }

@@ -40,6 +40,8 @@ fn certificate_of<O: Offers, P: Price>(
     requires closed { length duals.now.closed.items ≡ 5 }
     requires can { (j : ℕ) (s : Step) → closed_by duals.now.closed.items j ≡ Some s →
         CanTake (P.highest price.now) (P.counts price.now) s }
+    requires known { (j : ℕ) (s : Step) → closed_by duals.now.closed.items j ≡ Some s →
+        P.knows price.now s }
     requires start { start < 2 ^ 90 }
     requires gains { upto (O.blocks offers.now) (λ b. gains (O.done offers.now b)) ≤ start }
     ensures multipliers { (j : ℕ) → j < 5 → number_at result.multipliers j
@@ -82,6 +84,8 @@ fn allocate_around<O: Offers, P: Price>(
     requires done { (b : ℕ) → b < O.blocks offers.old → O.done offers.old b ≡ [] }
     requires ready { IsReady limits.now (P.highest price.old) (P.counts price.old)
         (P.inside_of price.old) (P.held_for price.old) (O.left offers.old) start }
+    requires known { (b : ℕ) → b < O.blocks offers.old →
+        AllByRecursion (P.knows price.old) (O.left offers.old b) }
     requires around { map (λ row. row.now) around.now ≡ around_each limits.now.inner }
     requires within { IsWithin limits.now (P.held_for price.old (P.counts price.old)) }
     ensures certified { IfOk result (λ c. IsCertificate
@@ -121,6 +125,8 @@ fn allocate_within<O: Offers, P: Price>(
     requires done { (b : ℕ) → b < O.blocks offers.old → O.done offers.old b ≡ [] }
     requires ready { IsReady limits.now (P.highest price.old) (P.counts price.old)
         (P.inside_of price.old) (P.held_for price.old) (O.left offers.old) start }
+    requires known { (b : ℕ) → b < O.blocks offers.old →
+        AllByRecursion (P.knows price.old) (O.left offers.old b) }
     requires within { IsWithin limits.now (P.held_for price.old (P.counts price.old)) }
     ensures certified { IfOk result (λ c. IsCertificate
         (frame_budgets limits.now (O.blocks offers.old) (P.inside_of price.old)
@@ -147,7 +153,8 @@ fn allocate_within<O: Offers, P: Price>(
 /// included. Else the outermost budget that would not is closed by the step, and its blocks change
 /// no more. `start` is the distortion with no passes, below 2^90; `offers` and `price` are of the
 /// same blocks, which are numbered from 0, and of no passes. Limits are below 2^22 bytes. The
-/// certificate's multipliers are over 2^32 and stand in the order frame, inner, c0, c1, c2.
+/// certificate's multipliers are over 2^32 and stand in the order frame, inner, c0, c1, c2. `price`
+/// knows of each step what it asks of one.
 ///
 /// Refused with `LimitTooSmall` exactly if a budget holds more than its limit at first: the
 /// outermost such budget, and the bytes that it holds. It comes before `Memory`. After both,
@@ -163,6 +170,8 @@ pub fn allocate_offers<O: Offers, P: Price>(
     requires done { (b : ℕ) → b < O.blocks offers.old → O.done offers.old b ≡ [] }
     requires ready { IsReady limits.now (P.highest price.old) (P.counts price.old)
         (P.inside_of price.old) (P.held_for price.old) (O.left offers.old) start }
+    requires known { (b : ℕ) → b < O.blocks offers.old →
+        AllByRecursion (P.knows price.old) (O.left offers.old b) }
     ensures too_small { (budget : Budget) (needed : ℕ) →
         (result ≡ Err (AllocateRefusal.LimitTooSmall budget needed)) ↔
         IsTooSmall limits.now (P.held_for price.old (P.counts price.old)) budget needed }
@@ -200,6 +209,8 @@ pub fn allocate<P: Price>(
     requires blocks { AllByRecursion (λ s. s.block < length (P.highest price.old)) steps.items }
     requires ready { IsReady limits.now (P.highest price.old) (P.counts price.old)
         (P.inside_of price.old) (P.held_for price.old) (λ b. steps_of b steps.items) start }
+    requires known { (b : ℕ) → b < length (P.highest price.old) →
+        AllByRecursion (P.knows price.old) (steps_of b steps.items) }
     ensures too_small { (budget : Budget) (needed : ℕ) →
         (result ≡ Err (AllocateRefusal.LimitTooSmall budget needed)) ↔
         IsTooSmall limits.now (P.held_for price.old (P.counts price.old)) budget needed }

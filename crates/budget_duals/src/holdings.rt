@@ -1,5 +1,6 @@
 // A choice of passes, and what nested budgets hold at it.
 ghost use Rattle.std.specs.Prelude.{ℕ, ◌≡◌, ◌<◌, List, length, set};
+ghost use Rattle.rd_hulls.specs.declared.step.Step.{Step};
 ghost use Rattle.allocation_bound.specs.Budgets.{chain};
 ghost use Rattle.budget_duals.specs.Price.{CanTake};
 ghost use Rattle.budget_duals.specs.Tree.{IsTree, around_in, limit_at, outermost};
@@ -24,6 +25,10 @@ pub trait Holdings {
     /// What each budget holds at any counts.
     ghost held_by: { Self → List ℕ → ℕ → ℕ };
 
+    /// What is asked of a step, so that what the budgets hold afterwards follows from the step
+    /// itself.
+    ghost knows: { Self → Step → Type 0 };
+
     /// Two values keep the same beside their counts and what follows from these.
     ghost stays: { Self → Self → Type 0 };
 
@@ -38,13 +43,15 @@ pub trait Holdings {
 
     /// What a budget would hold with a step taken, in bytes.
     fn held_with(&self, step: &Step, budget: u32) -> u32
-        requires { CanTake (most self.now) (chosen self.now) step.now }
+        requires can { CanTake (most self.now) (chosen self.now) step.now }
+        requires known { knows self.now step.now }
         ensures { result ≡ held_by self.now (set (chosen self.now) step.now.block step.now.to)
             budget };
 
     /// The outermost of its block's budgets that would hold more than its limit with a step taken.
     fn breaks(&self, tree: &Tree, step: &Step) -> Option<u32>
         requires step { CanTake (most self.now) (chosen self.now) step.now }
+        requires known { knows self.now step.now }
         requires tree { IsTree tree.now }
         requires node { node_of self.now step.now.block < length tree.now.limits.now }
         ensures { result ≡ outermost (limit_at tree.now)
@@ -53,11 +60,13 @@ pub trait Holdings {
 
     /// Takes a step: its block has the count where the step ends.
     fn choose(&mut self, step: &Step)
-        requires { CanTake (most self.old) (chosen self.old) step.now }
+        requires can { CanTake (most self.old) (chosen self.old) step.now }
+        requires known { knows self.old step.now }
         ensures chosen { chosen self.new ≡ set (chosen self.old) step.now.block step.now.to }
         ensures most { most self.new ≡ most self.old }
         ensures node { node_of self.new ≡ node_of self.old }
         ensures held { held_by self.new ≡ held_by self.old }
+        ensures knows { (s : Step) → knows self.old s → knows self.new s }
         ensures stays { stays self.old self.new };
 
     /// A value keeps the same as itself, and as each that keeps the same as one that does.

@@ -28,6 +28,7 @@ pub(crate) fn take_or_close<O: Offers, H: Holdings>(
         (budgets_of tree.now (O.blocks offers.old) (H.node_of held.old) (H.held_by held.old)) }
     requires offered { O.offered offers.old step.now.block ≡ Offer.Step step.now }
     requires can { CanTake (H.most held.old) (H.chosen held.old) step.now }
+    requires known { H.knows held.old step.now }
     requires next { IsNextStep
         (budgets_of tree.now (O.blocks offers.old) (H.node_of held.old) (H.held_by held.old))
         (so_far (H.chosen held.old) (O.done offers.old) (O.left offers.old) closed.old) step.now }
@@ -56,6 +57,7 @@ pub(crate) fn take_or_close<O: Offers, H: Holdings>(
     ensures most { H.most held.new ≡ H.most held.old }
     ensures node { H.node_of held.new ≡ H.node_of held.old }
     ensures held { H.held_by held.new ≡ H.held_by held.old }
+    ensures knows { (s : Step) → H.knows held.old s → H.knows held.new s }
     ensures stays { H.stays held.old held.new }
     ensures keeps { O.stays offers.old offers.new }
 {
@@ -88,6 +90,7 @@ pub(crate) fn visit<O: Offers, H: Holdings>(
     requires own { (s : Step) → entry.now.offer ≡ Offer.Step s → s.block ≡ entry.now.block }
     requires can { (s : Step) → entry.now.offer ≡ Offer.Step s →
         CanTake (H.most held.old) (H.chosen held.old) s }
+    requires known { (s : Step) → entry.now.offer ≡ Offer.Step s → H.knows held.old s }
     requires next { (s : Step) → entry.now.offer ≡ Offer.Step s →
         IsNextStep (budgets_of tree.now (O.blocks offers.old) (H.node_of held.old)
         (H.held_by held.old))
@@ -117,6 +120,7 @@ pub(crate) fn visit<O: Offers, H: Holdings>(
     ensures most { H.most held.new ≡ H.most held.old }
     ensures node { H.node_of held.new ≡ H.node_of held.old }
     ensures held { H.held_by held.new ≡ H.held_by held.old }
+    ensures knows { (s : Step) → H.knows held.old s → H.knows held.new s }
     ensures stays { H.stays held.old held.new }
     ensures keeps { O.stays offers.old offers.new }
 {

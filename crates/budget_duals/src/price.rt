@@ -1,5 +1,6 @@
 // What the budgets hold at the present choice, and after one step more.
 ghost use Rattle.std.specs.Prelude.{ℕ, ◌≡◌, ◌<◌, List, length, set};
+ghost use Rattle.rd_hulls.specs.declared.step.Step.{Step};
 ghost use Rattle.budget_duals.specs.Price.{AreCounts, CanTake, HasLaw};
 ghost use Rattle.budget_duals.specs.declared.held.Held.{Held};
 ghost use Rattle.budget_duals.specs.declared.members.Members.{Members};
@@ -23,6 +24,10 @@ pub trait Price {
     /// The budgets of each block.
     ghost inside_of: { Self → ℕ → Members };
 
+    /// What is asked of a step, so that what the budgets hold afterwards follows from the step
+    /// itself: as that its bytes are those by which its block's code grows.
+    ghost knows: { Self → Step → Type 0 };
+
     /// Two values keep the same beside their counts and what follows from these.
     ghost keeps: { Self → Self → Type 0 };
 
@@ -36,12 +41,14 @@ pub trait Price {
 
     /// What they would hold with a step taken.
     fn after(&self, step: &Step) -> Held
-        requires { CanTake (highest self.now) (counts self.now) step.now }
+        requires can { CanTake (highest self.now) (counts self.now) step.now }
+        requires known { knows self.now step.now }
         ensures { result ≡ held_for self.now (set (counts self.now) step.now.block step.now.to) };
 
     /// Takes a step: its block has the count where the step ends.
     fn take(&mut self, step: &Step)
-        requires { CanTake (highest self.old) (counts self.old) step.now }
+        requires can { CanTake (highest self.old) (counts self.old) step.now }
+        requires known { knows self.old step.now }
         ensures counts { counts self.new ≡ set (counts self.old) step.now.block step.now.to }
         ensures keeps { keeps self.old self.new };
 
@@ -61,10 +68,13 @@ pub trait Price {
 
     ghost keeps_on: { (s t u : Self) → keeps s t → keeps t u → keeps s u };
 
-    /// The highest counts are among what is kept, and what is held at any counts, and the budgets.
+    /// The highest counts are among what is kept, and what is held at any counts, the budgets, and
+    /// what is asked of a step.
     ghost same_highest: { (s t : Self) → keeps s t → highest t ≡ highest s };
 
     ghost same_held: { (s t : Self) → keeps s t → held_for t ≡ held_for s };
 
     ghost same_inside: { (s t : Self) → keeps s t → inside_of t ≡ inside_of s };
+
+    ghost same_knows: { (s t : Self) (step : Step) → keeps s t → knows s step → knows t step };
 }

@@ -40,6 +40,8 @@ impl<P: Price> Holdings for P {
 
     ghost held_by = { λ s c j. bytes_in (P.held_for s c) j };
 
+    ghost knows = { λ s step. P.knows s step };
+
     ghost stays = { λ s t. P.keeps s t };
 
     ghost stays_itself = { λ s. P.keeps_itself s };

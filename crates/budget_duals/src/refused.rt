@@ -41,7 +41,8 @@ fn price_of(step: &Step, more: u32) -> u128
 
 // By how many bytes a budget would grow with a step taken, beyond those of the step itself.
 fn grow_of<H: Holdings>(held: &H, step: &Step, budget: u32) -> u32
-    requires { CanTake (H.most held.now) (H.chosen held.now) step.now }
+    requires can { CanTake (H.most held.now) (H.chosen held.now) step.now }
+    requires known { H.knows held.now step.now }
     ensures { result ≡ H.held_by held.now (set (H.chosen held.now) step.now.block step.now.to)
         budget
         - (H.held_by held.now (H.chosen held.now) budget + step.now.len) }
@@ -64,6 +65,7 @@ fn add_refused<H: Holdings>(
     requires closed { length closed.now ≡ 5 }
     requires can { (j : ℕ) (s : Step) → closed_by closed.now j ≡ Some s →
         CanTake (H.most held.now) (H.chosen held.now) s }
+    requires known { (j : ℕ) (s : Step) → closed_by closed.now j ≡ Some s → H.knows held.now s }
     ensures items { out.new.items ≡ out.old.items
         ++ refused_listed (H.held_by held.now) (H.chosen held.now) multipliers.now closed.now
         budget }
@@ -94,6 +96,7 @@ pub(crate) fn refused_list<H: Holdings>(
     requires closed { length closed.now ≡ 5 }
     requires can { (j : ℕ) (s : Step) → closed_by closed.now j ≡ Some s →
         CanTake (H.most held.now) (H.chosen held.now) s }
+    requires known { (j : ℕ) (s : Step) → closed_by closed.now j ≡ Some s → H.knows held.now s }
     ensures { result.items
         ≡ refused_all (H.held_by held.now) (H.chosen held.now) multipliers.now closed.now }
 {

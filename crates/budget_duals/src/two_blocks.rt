@@ -104,6 +104,8 @@ impl Price for TwoBlocks {
 
     ghost inside_of = { λ s b. two_inside s.first_inside s.second_inside b };
 
+    ghost knows = { λ s step. Unit {0} };
+
     ghost keeps = { λ s t.
         (two_held t.base t.first_inside t.second_inside t.first_bytes t.second_bytes
         ≡ two_held s.base s.first_inside s.second_inside s.first_bytes s.second_bytes)
@@ -123,6 +125,8 @@ impl Price for TwoBlocks {
     ghost same_held = { λ s t same. same.0 };
 
     ghost same_inside = { λ s t same. same.1 };
+
+    ghost same_knows = { λ s t step same known. known };
 
     fn count(&self) -> u32 {
         2

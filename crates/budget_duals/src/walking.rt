@@ -1,6 +1,7 @@
 // The walk over what blocks offer.
 ghost use Rattle.std.specs.Prelude.{ℕ, ◌≡◌, ◌<◌, ◌≤◌, length};
 ghost use Rattle.std.specs.BinaryHeap.{heap_items, heap_len, heap_capacity};
+ghost use Rattle.std.specs.List.{AllByRecursion};
 ghost use Rattle.allocation_bound.specs.Settled.{AreBudgets, IsSettled};
 ghost use Rattle.budget_duals.specs.Tree.{IsTree, budgets_of};
 ghost use Rattle.budget_duals.specs.Walking.{so_far, CanWalk};
@@ -29,6 +30,8 @@ pub(crate) fn walk<O: Offers, H: Holdings>(
     requires budgets { AreBudgets
         (budgets_of tree.now (O.blocks offers.old) (H.node_of held.old) (H.held_by held.old)) }
     requires can { CanWalk (H.most held.old) (O.left offers.old) }
+    requires known { (b : ℕ) → b < O.blocks offers.old →
+        AllByRecursion (H.knows held.old) (O.left offers.old b) }
     requires going { IsGoing
         (budgets_of tree.now (O.blocks offers.old) (H.node_of held.old) (H.held_by held.old))
         (O.left offers.old) (so_far (H.chosen held.old) (O.done offers.old) (O.left offers.old)

@@ -37,7 +37,7 @@ use Rattle.frame_choice.specs.declared.coded.CodedFrame.{CodedFrame}
 
 -- ---- how many passes a block can have
 
-usable_few : (levels : ℕ) (steps : StepSizes) (r : ℕ) (o : Orient) → AreUsable levels steps →
+pub usable_few : (levels : ℕ) (steps : StepSizes) (r : ℕ) (o : Orient) → AreUsable levels steps →
     r ≤ levels → IsOrientAt r o → band_planes steps r o ≤ 20
 usable_few levels steps zero LL usable below is = usable.lowest.planes_high
 usable_few levels steps zero HL usable below is = absurd (omega (arith, is))
@@ -98,7 +98,7 @@ filter_all : (b : ℕ) (s : Step) (rest : List Step) (t : Bool) → t ≡ true �
     cond t (s ∷ rest) rest ≡ s ∷ rest
 filter_all b s rest t is = rw is refl
 
-test_own : (a b : ℕ) → a ≡ b → (a == b) ≡ true
+pub test_own : (a b : ℕ) → a ≡ b → (a == b) ≡ true
 test_own a b h = grind (arith, nat_tests)
 
 test_other : (a b : ℕ) → (a ≡ b → ⊥) → (a == b) ≡ false

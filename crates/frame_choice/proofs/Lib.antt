@@ -1,4 +1,7 @@
 pub mod Taking
+pub mod StepEntry
+pub mod WithoutPasses
+pub mod KnownSteps
 pub mod HullLemmas
 pub mod NoPasses
 pub mod Sums

@@ -5,6 +5,8 @@ pub mod Headers
 -- Blocks by their numbers.
 pub mod Blocks
 pub mod NumberLaws
+-- What is kept of blocks at the present choice.
+pub mod Present
 -- The law of what the budgets of a frame hold.
 pub mod HeldLaws
 pub mod PriceLaws

@@ -6,6 +6,7 @@ ghost use Rattle.dz_quantiser.specs.Bands.{AreUsable};
 ghost use Rattle.frame_choice.specs.Blocks.{three_planes};
 ghost use Rattle.std.specs.Prelude.{◌≡◌};
 
+use crate::quantised::QuantisedFrame;
 use band_geometry::Geometry;
 use codeblock_views::CoefPlane;
 use coded_blocks::CodedBlocks;
@@ -25,4 +26,21 @@ pub struct CodedFrame<'a> {
     pub ghost usable: { AreUsable geometry.now.levels steps.now },
     pub ghost coded: { AreCoded geometry.now steps.now (three_planes c0.now c1.now c2.now)
         blocks.now } by { Prim.hlevel props },
+}
+
+impl<'a> CodedFrame<'a> {
+    ghost use Rattle.frame_choice.specs.PriceLaws.{IsQuantised};
+
+    /// The frame without its coding passes.
+    pub fn quantised(&self) -> QuantisedFrame<'a>
+        ensures { IsQuantised self.now result }
+    {
+        QuantisedFrame {
+            geometry: self.geometry,
+            steps: self.steps,
+            c0: self.c0,
+            c1: self.c1,
+            c2: self.c2,
+        }
+    }
 }

@@ -1,8 +1,13 @@
 // Frames of one sample, whose numbers are known from outside, and one of the largest size.
-ghost use Rattle.std.specs.Prelude.{◌*◌, ◌^◌, ◌≡◌, ◌<◌, IfOk};
+ghost use Rattle.std.specs.Prelude.{ℕ, ◌*◌, ◌^◌, ◌≡◌, ◌<◌, IfOk, length};
+ghost use Rattle.std.specs.List.{AllByRecursion};
+ghost use Rattle.budget_duals.specs.Listed.{steps_of};
 ghost use Rattle.cine_nums.specs.declared.profile.Profile.TheVariants.{TwoK};
 ghost use Rattle.dz_quantiser.specs.Bands.{AreUsable};
 ghost use Rattle.coded_blocks.specs.Frame.{CanBeCoded};
+ghost use Rattle.frame_choice.specs.Blocks.{most_passes};
+ghost use Rattle.frame_choice.specs.Present.{IsKnownStep};
+ghost use Rattle.frame_choice.specs.PriceLaws.{planes_in};
 
 use crate::{Choice, CodedFrame, FramePrice, choose, steps};
 use band_geometry::Geometry;
@@ -32,17 +37,35 @@ fn plane_of(
     Ok(plane)
 }
 
-/// What the whole frame would hold after a step, and 0 where the step can't be taken.
-fn after(price: &FramePrice, step: &Step) -> u32 {
+/// What the whole frame would hold after the first of these steps, and 0 where there is none or it
+/// can't be taken.
+fn after(price: &FramePrice, steps: &[Step]) -> u32
+    requires known { (b : ℕ) → b < length (most_passes price.now.frame.geometry.now
+        (planes_in price.now.frame)) →
+        AllByRecursion (IsKnownStep price.now.frame.geometry.now price.now.frame.steps.now
+        (planes_in price.now.frame)) (steps_of b steps.now) }
+{
+    if steps.len() == 0 {
+        return 0;
+    }
+    let step = steps[0];
     let block = step.block;
     if block < price.count()
         && price.counts[block as usize] == step.from
         && step.to <= price.passes(block)
     {
-        price.after(step).frame
+        price.after(&step).frame
     } else {
         0
     }
+}
+
+/// What the whole frame would hold after the first step of its hulls.
+fn first_after(alloc: Global, frame: CodedFrame) -> Result<u32, AllocError> {
+    let all = steps(alloc, &frame)?;
+    let packets = FramePackets::empty(alloc, frame.geometry, frame.steps)?;
+    let price = FramePrice::new(alloc, frame, packets)?;
+    Ok(after(&price, all.as_slice()))
 }
 
 // The magnitude 64 has 7 bit-planes and 19 passes. Its hull has one step from no pass to 18, which
@@ -74,7 +97,7 @@ fn the_magnitude_64(rt: HostRuntime) -> Result<(), Fail> {
     let packets = FramePackets::empty(alloc, &geometry, &sizes)?;
     let price = FramePrice::new(alloc, frame, packets)?;
     assert_eq!(rt; (price.count(), price.held().frame), (3, 191));
-    assert_eq!(rt; after(&price, &step), 195);
+    assert_eq!(rt; first_after(alloc, frame)?, 195);
     assert_eq!(rt; price.held().component, [20, 20, 20]);
     Ok(())
 }

@@ -62,3 +62,8 @@ pub at_most_58 : (all : ℕ → List Point) → ((b : ℕ) → length (all b) �
 at_most_58 all few zero below = few 0
 at_most_58 all few (suc zero) below = few 1
 at_most_58 all few (suc (suc b)) below = absurd (omega arith)
+
+-- the two blocks ask nothing of a step
+pub all_known : (steps : List Step) → AllByRecursion (λ (s : Step). Unit {0}) steps
+all_known [] = tt
+all_known (s ∷ rest) = (tt, all_known rest)

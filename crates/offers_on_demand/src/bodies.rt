@@ -61,6 +61,8 @@ impl Holdings for Bodies {
 
     ghost held_by = { λ s counts j. held_at s.first_bytes s.second_bytes counts j };
 
+    ghost knows = { λ s step. Unit {0} };
+
     ghost stays = { λ s t. held_at t.first_bytes t.second_bytes
         ≡ held_at s.first_bytes s.second_bytes };
 

@@ -4,7 +4,7 @@ use Rattle.rd_hulls.specs.declared.step.Step.{Step}
 use Rattle.budget_duals.specs.Certified.{IsReady}
 use Rattle.budget_duals.specs.Listed.{left_at, steps_of}
 use Rattle.budget_duals.specs.TwoBlocks.{two_inside, two_held}
-use Rattle.budget_duals.proofs.TwoReady.{two_ready}
+use Rattle.budget_duals.proofs.TwoReady.{two_ready, all_known}
 use Rattle.budget_duals.proofs.allocate_tests.allocate_shy.Goals as goal
 
 pub allocate_offers-requires-clause-ready : goal.allocate_offers-requires-clause-ready
@@ -21,3 +21,6 @@ allocate_offers-requires-clause-ready c =
     (two_ready c.args.limits.now c.args.base c.args.inside.0 c.args.inside.1 c.args.bytes.0
     c.args.bytes.1
     c.args.steps.now c.args.start c.requires.fits)
+
+pub allocate_offers-requires-clause-known : goal.allocate_offers-requires-clause-known
+allocate_offers-requires-clause-known c = λ b inside. all_known _

@@ -48,6 +48,14 @@ allocate_offers-requires-clause-ready g c =
     (g.P.Price.inside_of c.args.price.now) (g.P.Price.held_for c.args.price.now) h c.args.start)
     (λ i b. same b i) c.requires.ready
 
+pub allocate_offers-requires-clause-known : goal.allocate_offers-requires-clause-known
+allocate_offers-requires-clause-known g c = λ b inside.
+    let blocks : length c.in-Ok.offers.places.items ≡ length (g.P.Price.highest c.args.price.now) =
+    c.in-Ok.ensures.blocks ∙ c.count.ensures in
+    let same = c.in-Ok.ensures.left b ∙ ap (steps_of b) c.deref.ensures.value in
+    subst (AllByRecursion (g.P.Price.knows c.args.price.now)) (sym same)
+    (c.requires.known b (subst (λ n. b < n) blocks inside))
+
 pub returns-in-Ok-clause-certified : goal.returns-in-Ok-clause-certified
 returns-in-Ok-clause-certified g c =
     let f : Vec Step Global → List Step = λ v. v.items in

@@ -14,7 +14,8 @@ use Rattle.budget_duals.specs.Walking.{so_far}
 use Rattle.budget_duals.specs.declared.held.Held.{Held}
 use Rattle.budget_duals.specs.declared.limits.Limits.{Limits}
 use Rattle.budget_duals.specs.declared.members.Members.{Members}
-use Rattle.budget_duals.proofs.CertifiedLemmas.{can_take_refused, taken_gains, certified_frame}
+use Rattle.budget_duals.proofs.CertifiedLemmas.{can_take_refused, all_refused, taken_gains}
+use Rattle.budget_duals.proofs.CertifiedLemmas.{certified_frame}
 use Rattle.budget_duals.proofs.FrameLemmas.{low_each, within_each, frame_are_budgets, budgets_by}
 use Rattle.budget_duals.proofs.FrameLemmas.{budgets_are, numbers_are}
 use Rattle.budget_duals.proofs.frame.allocate_around.Goals as goal
@@ -70,6 +71,25 @@ certificate_of-requires-clause-can g c = λ j s e.
     c.in_ok-duals.ensures.stays))
     (can_take_refused w steps _ most all.settled all.certificate (sym c.requires.blocks)
     c.requires.ready.can_walk j s e)
+
+pub certificate_of-requires-clause-known : goal.certificate_of-requires-clause-known
+certificate_of-requires-clause-known g c = λ j s e.
+    let blocks : ℕ = g.O.Offers.blocks c.args.offers.now in
+    let steps : ℕ → List Step = g.O.Offers.left c.args.offers.now in
+    let w : Budgets = budgets_by (map (λ row. row.now) c.args.around.now)
+    (c.args.limits.now.frame ∷ c.inner_limit.result ∷ slice_index_or c.args.limits.now.component 0 0
+    ∷ slice_index_or c.args.limits.now.component 1 0
+    ∷ slice_index_or c.args.limits.now.component 2 0 ∷ [])
+    blocks (g.P.Price.inside_of c.args.price.now) (g.P.Price.held_for c.args.price.now) in
+    let all : IsAllocated w steps
+    (so_far (g.P.Price.counts c.allocate_over.new.held)
+    (g.O.Offers.done c.allocate_over.new.offers)
+    (g.O.Offers.left c.allocate_over.new.offers) c.in_ok-duals.duals.closed.items)
+    c.in_ok-duals.duals.multipliers.items c.in_ok-duals.duals.gap =
+    c.in_ok-duals.ensures.ok in
+    g.met.P.Price.same_knows c.args.price.now c.allocate_over.new.held s
+    c.in_ok-duals.ensures.stays
+    (all_refused w steps _ (g.P.Price.knows c.args.price.now) all.settled c.requires.known j s e)
 
 pub certificate_of-requires-clause-gains : goal.certificate_of-requires-clause-gains
 certificate_of-requires-clause-gains g c =

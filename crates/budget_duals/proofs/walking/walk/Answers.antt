@@ -7,7 +7,8 @@ use Rattle.allocation_bound.specs.Settled.{Budgets, Outcome, nearest}
 use Rattle.budget_duals.specs.Price.{CanTake}
 use Rattle.budget_duals.specs.Tree.{around_in, budgets_of, closed_by}
 use Rattle.budget_duals.specs.Walking.{so_far, Walks, IsNextStep}
-use Rattle.budget_duals.proofs.WalkLemmas.{same_budgets, top_entry, top_own, top_next, top_can}
+use Rattle.budget_duals.proofs.WalkLemmas.{same_budgets, top_entry, top_own, top_all, top_next}
+use Rattle.budget_duals.proofs.WalkLemmas.{top_can}
 use Rattle.budget_duals.proofs.WalkLemmas.{going_dropped, going_on}
 use Rattle.budget_duals.proofs.walking.walk.Goals as goal
 
@@ -34,6 +35,19 @@ visit-requires-clause-can g c = λ s is.
     c.in-Some.ensures.permutation c.requires.can c.requires.blocks
     (λ b inside. g.met.O.Offers.true_offers c.loop-entry.offers b (here b inside))
     (λ b inside. g.met.O.Offers.own_steps c.loop-entry.offers b (here b inside)) s is)
+
+pub visit-requires-clause-known : goal.visit-requires-clause-known
+visit-requires-clause-known g c = λ s is.
+    let w : Budgets = budgets_of c.args.tree.now (g.O.Offers.blocks c.args.offers.now)
+    (g.H.Holdings.node_of c.args.held.now) (g.H.Holdings.held_by c.args.held.now) in
+    let here : (b : ℕ) → b < w.blocks → b < g.O.Offers.blocks c.loop-entry.offers =
+    λ b inside. subst (λ n. b < n) (sym c.loop-entry.invariant.blocks) inside in
+    c.loop-entry.invariant.knows s
+    (top_all w _ _ _ _ _ _ c.in-Some.entry c.loop-entry.invariant.going
+    c.in-Some.ensures.permutation c.requires.can c.requires.blocks
+    (λ b inside. g.met.O.Offers.true_offers c.loop-entry.offers b (here b inside))
+    (λ b inside. g.met.O.Offers.own_steps c.loop-entry.offers b (here b inside)) s is
+    (g.H.Holdings.knows c.args.held.now) c.requires.known)
 
 pub visit-requires-clause-next : goal.visit-requires-clause-next
 visit-requires-clause-next g c = λ s is.
@@ -91,6 +105,7 @@ loop-entry-preserved-then-is_open g c =
       most = c.visit.ensures.most ∙ c.loop-entry.invariant.most;
       node = c.visit.ensures.node ∙ c.loop-entry.invariant.node;
       held = c.visit.ensures.held ∙ c.loop-entry.invariant.held;
+      knows = λ s known. c.visit.ensures.knows s (c.loop-entry.invariant.knows s known);
       stays = g.met.H.Holdings.stays_on _ _ _ c.loop-entry.invariant.stays c.visit.ensures.stays;
       keeps = g.met.O.Offers.stays_on _ _ _ c.loop-entry.invariant.keeps c.visit.ensures.keeps;
       few = omega arith;
@@ -130,6 +145,7 @@ loop-entry-preserved g c =
       most = c.loop-entry.invariant.most;
       node = c.loop-entry.invariant.node;
       held = c.loop-entry.invariant.held;
+      knows = c.loop-entry.invariant.knows;
       stays = c.loop-entry.invariant.stays;
       keeps = c.loop-entry.invariant.keeps;
       few = omega arith;

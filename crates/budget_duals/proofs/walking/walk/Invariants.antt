@@ -1,6 +1,7 @@
 -- What stands between two looks at the heap.
 use Rattle.std.proofs.Common.{◌≡◌, ◌+◌, ◌≤◌, length}
 use Rattle.std.specs.BinaryHeap.{heap_items, heap_len, heap_capacity}
+use Rattle.rd_hulls.specs.declared.step.Step.{Step}
 use Rattle.budget_duals.specs.Tree.{budgets_of}
 use Rattle.budget_duals.specs.Walking.{so_far, ahead}
 use Rattle.budget_duals.specs.Going.{IsGoing}
@@ -13,6 +14,7 @@ invariant-loop-entry g l = record {
   most : g.H.Holdings.most l.held ≡ g.H.Holdings.most l.fn.held;
   node : g.H.Holdings.node_of l.held ≡ g.H.Holdings.node_of l.fn.held;
   held : g.H.Holdings.held_by l.held ≡ g.H.Holdings.held_by l.fn.held;
+  knows : (s : Step) → g.H.Holdings.knows l.fn.held s → g.H.Holdings.knows l.held s;
   stays : g.H.Holdings.stays l.fn.held l.held;
   keeps : g.O.Offers.stays l.fn.offers l.offers;
   few : heap_len l.heap ≤ g.O.Offers.blocks l.fn.offers;

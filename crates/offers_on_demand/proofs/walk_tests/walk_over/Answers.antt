@@ -1,6 +1,6 @@
 -- A walk can go over the steps of both hulls.
 use Rattle.std.proofs.Common.{ℕ, ◌<◌, sym, subst, ◌∙◌, slice_get}
-use Rattle.offers_on_demand.proofs.Walked.{can_walk, hull_bytes, two_bytes, at_most_58}
+use Rattle.offers_on_demand.proofs.Walked.{can_walk, hull_bytes, two_bytes, at_most_58, all_known}
 use Rattle.offers_on_demand.specs.ListedBlocks.{all_in}
 use Rattle.offers_on_demand.specs.ListedLaws.{completes_in, few_in}
 use Rattle.offers_on_demand.proofs.walk_tests.walk_over.Goals as goal
@@ -21,3 +21,6 @@ allocate_over-requires-clause-bytes c =
     (λ b below. hull_bytes b (all_in (slice_get blocks b)) _
     (completes_in (slice_get blocks b)).are
     (c.in_ok-offers.ensures.left b (subst (λ (n : ℕ). b < n) (sym c.requires.two) below)))
+
+pub allocate_over-requires-clause-known : goal.allocate_over-requires-clause-known
+allocate_over-requires-clause-known c = λ b below. all_known _
