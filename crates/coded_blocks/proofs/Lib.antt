@@ -1,3 +1,4 @@
 mod Joining
 mod Looking
-mod Planes
+pub mod NextCode
+pub mod Planes

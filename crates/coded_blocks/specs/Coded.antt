@@ -1,5 +1,5 @@
 -- The code-blocks of a frame with all their coding passes coded (ISO/IEC 15444-1, Annexes C and D).
-use Rattle.std.specs.Prelude.{ℕ, ◌+◌, ◌-◌, ◌<◌, ◌≤◌, ◌≡◌, Bool, List, [], ◌∷◌, ◌++◌}
+use Rattle.std.specs.Prelude.{ℕ, ◌+◌, ◌-◌, ◌^◌, ◌<◌, ◌≤◌, ◌≡◌, Bool, List, [], ◌∷◌, ◌++◌}
 use Rattle.std.specs.Prelude.{length, get_or, take, drop}
 use Rattle.band_geometry.specs.Bands.{IsBlock}
 use Rattle.band_geometry.specs.Counts.{number_of}
@@ -31,6 +31,13 @@ row_at s n =
 -- how many passes the block with this number has
 abbrev pub passes_at : CodedBlocks → ℕ → ℕ
 passes_at s n = (row_at s n).passes
+
+-- One number for each block, by block number, and none above the number of its passes. Block
+-- numbers are below 2^32.
+pub record AreCounts (s : CodedBlocks) (counts : List ℕ) : Type 0 where
+  pub long : length counts ≡ count_of s
+  pub few : count_of s < 2 ^ 32
+  pub most : (n : ℕ) → n < count_of s → get_or counts n 0 ≤ passes_at s n
 
 -- What is kept of a block of a band of so many bit-planes: its coefficients and its shape say what
 -- its passes are. Its passes are those from its first one on, and their code stands from its first

@@ -1,3 +1,5 @@
 pub mod Coded
+pub mod Codes
+pub mod Ends
 pub mod Frame
 pub mod Rows

@@ -69,6 +69,22 @@ fn distortion(blocks: &CodedBlocks, n: u32, k: u8) -> u64 {
     }
 }
 
+/// The bytes of all blocks of a choice of passes, those of each after the byte 1; none where a
+/// block has fewer passes.
+fn chosen(alloc: Global, blocks: &CodedBlocks, counts: &[u8]) -> Result<Vec<u8>, AllocError> {
+    let mut out = Vec::new(alloc);
+    if blocks.has_passes(counts) {
+        let codes = blocks.chosen(alloc, counts)?;
+        for n in 0..codes.count() {
+            out.push(1)?;
+            if n < 24 {
+                codes.push_code(n as u32, &mut out)?;
+            }
+        }
+    }
+    Ok(out)
+}
+
 fn included(zero_planes: u8, passes: u8, len: u32) -> Entry {
     Entry {
         included: true,
@@ -151,6 +167,35 @@ fn blocks_of_three_components(rt: HostRuntime) -> Result<(), Fail> {
         code(rt.alloc(), &blocks, 16, 1)?.as_slice(),
         [1, 0x07].as_slice()
     );
+    let mut counts = [0; 24];
+    counts[12] = 5;
+    counts[16] = 1;
+    assert_eq!(rt;
+        chosen(rt.alloc(), &blocks, &counts)?.as_slice(),
+        [
+            1, 1, 1, 1, 1, 1, 1, 1, 1, 1, 1, 1, 1, 0x03, 1, 1, 1, 1, 0x07, 1, 1, 1, 1, 1, 1, 1
+        ]
+        .as_slice()
+    );
+    // one number too few, and one pass too many
+    assert_eq!(rt; blocks.has_passes(&counts[..23]), false);
+    counts[16] = 2;
+    assert_eq!(rt; blocks.has_passes(&counts), false);
+    Ok(())
+}
+
+#[test]
+fn codes_one_after_the_other(rt: HostRuntime) -> Result<(), Fail> {
+    let mut codes = ChosenCodes::new(rt.alloc());
+    codes.push(&[])?;
+    codes.push(&[3])?;
+    codes.push(&[7, 8])?;
+    assert_eq!(rt; codes.count(), 3);
+    let mut out = Vec::new(rt.alloc());
+    codes.push_code(2, &mut out)?;
+    codes.push_code(0, &mut out)?;
+    codes.push_code(1, &mut out)?;
+    assert_eq!(rt; out.as_slice(), [7, 8, 3].as_slice());
     Ok(())
 }
 

@@ -1,5 +1,5 @@
 -- Lists that are appended piece by piece.
-use Rattle.std.proofs.Common.{◌≡◌, ℕ, zero, suc, ◌+◌, ◌<◌, length, get_or, arith, List, [], ◌∷◌, ◌++◌, map, refl, sym, ap, ◌∙◌}
+use Rattle.std.proofs.Common.{◌≡◌, ℕ, ◌+◌, List, [], ◌∷◌, ◌++◌, map, refl, sym, ap, ◌∙◌}
 use Rattle.std.proofs.Common.{append_assoc, add-one}
 use Rattle.std.specs.List.{flat_map, range_with_len}
 use Rattle.std.proofs.lemmas.Grind.{flat_map-append}
@@ -31,9 +31,3 @@ pieces_pieces f h [] = refl
 pieces_pieces f h (x ∷ xs) =
     ap (λ (bytes : List ℕ). flat_map f (h x) ++ bytes) (pieces_pieces f h xs)
     ∙ sym (flat_map-append f (h x) (flat_map h xs))
-
--- what stands at a place that is there, whatever else would
-pub any_default : (xs : List ℕ) (n d e : ℕ) → n < length xs → get_or xs n d ≡ get_or xs n e
-any_default [] n d e within = absurd (omega (arith, within))
-any_default (x ∷ xs) zero d e within = refl
-any_default (x ∷ xs) (suc n) d e within = any_default xs n d e (omega (arith, within))

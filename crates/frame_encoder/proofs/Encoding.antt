@@ -54,7 +54,7 @@ encodes_so reading decoding order p g s bytes held empty c of allowed same is_fr
     let best : IsChosen h (steps_in h) planes order.limits s.choice.items c =
     subst (λ (k : Geometry). IsChosen k (steps_in k) (planes_of k p) order.limits s.choice.items c)
     back chosen in
-    let can = can_choose planes s is order.limits (allowed.most Frame) best.within in
+    let can = can_choose planes s is best.is_choice order.limits (allowed.most Frame) best.within in
     record {
       geometry = h;
       of_picture = subst (λ (k : Geometry). IsGeometryOf order.profile p k) back of;

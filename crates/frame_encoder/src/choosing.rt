@@ -29,9 +29,9 @@ pub struct FrameChoice {
     pub certificate: Certificate,
 }
 
-/// Chooses the coding passes of a frame of this geometry, for which no limit is too small. The
-/// coefficients are dropped when the passes are chosen; of the code-blocks only their passes are
-/// kept.
+/// Chooses the coding passes of a frame of this geometry, for which no limit is too small. When
+/// they are chosen the coefficients are dropped and so are the coded blocks: the bytes of the
+/// chosen passes are kept.
 pub fn choose_passes(
     alloc: Global,
     geometry: &Geometry,
@@ -70,9 +70,10 @@ pub fn choose_passes(
         blocks: &blocks,
     };
     let choice = choose(alloc, coded, limits, packets)?;
+    let codes = blocks.chosen(alloc, choice.counts.as_slice())?;
     let passes = ChosenPasses {
         geometry: *geometry,
-        blocks,
+        codes,
         choice: choice.counts,
         packets: choice.packets,
     };

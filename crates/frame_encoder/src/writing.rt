@@ -1,11 +1,11 @@
-// A frame's code-blocks and packets at a choice of coding passes, and how they are written.
-ghost use Rattle.std.specs.Prelude.{ℕ, ◌≡◌, ◌-◌, ◌<◌, ◌≤◌, ◌++◌, length, get_or, OnOk};
+// A frame's packets at a choice of coding passes with the bytes of these, and how they are written.
+ghost use Rattle.std.specs.Prelude.{◌≡◌, ◌-◌, ◌<◌, ◌≤◌, ◌++◌, length, OnOk};
 ghost use Rattle.std.specs.List.{flat_map};
 ghost use Rattle.band_geometry.specs.Bands.{HasBand, IsBlock, precinct_blocks_of};
 ghost use Rattle.band_geometry.specs.Numbering.{all_blocks};
 ghost use Rattle.band_geometry.specs.Sizes.{precinct_count};
 ghost use Rattle.band_geometry.specs.TileParts.{part_of_res};
-ghost use Rattle.coded_blocks.specs.Coded.{count_of, passes_at};
+ghost use Rattle.coded_blocks.specs.Codes.{code_count};
 ghost use Rattle.cine_nums.specs.Profile.{levels_of, parts_of};
 ghost use Rattle.packet_order.specs.Blocks.{blocks_in, blocks_of_packet, row_in};
 ghost use Rattle.packet_order.specs.Order.{IsPacketOf};
@@ -14,26 +14,24 @@ ghost use Rattle.profile_reader.specs.Chosen.{Planes};
 use band_geometry::{BlockId, BlockRange, Geometry};
 use budget_duals::Held;
 use cine_nums::Orient;
-use coded_blocks::CodedBlocks;
+use coded_blocks::ChosenCodes;
 use frame_packets::FramePackets;
 use packet_headers::header;
 use packet_order::{PacketId, order};
 use std::alloc::{AllocError, Global};
 use tile_parts::part_head;
 
-/// The code-blocks of a frame with all their coding passes, how many of them are chosen of each by
-/// block number, and the packets of this choice.
+/// How many coding passes are chosen of each code-block of a frame, by block number, the bytes of
+/// these passes, and the packets of this choice.
 #[derive(Drop)]
 pub struct ChosenPasses {
     pub geometry: Geometry,
-    pub blocks: CodedBlocks,
+    pub codes: ChosenCodes,
     pub choice: Vec<u8>,
     pub packets: FramePackets,
     pub ghost levels: { geometry.levels ≡ levels_of geometry.profile },
-    pub ghost blocks_count: { count_of blocks ≡ length (all_blocks geometry) },
+    pub ghost codes_count: { code_count codes ≡ length (all_blocks geometry) },
     pub ghost choice_count: { length choice.items ≡ length (all_blocks geometry) },
-    pub ghost most: { (n : ℕ) → n < length (all_blocks geometry) →
-        get_or choice.items n 0 ≤ passes_at blocks n },
     pub ghost packets_of: { packets.geometry ≡ geometry },
 }
 
@@ -48,7 +46,7 @@ impl ChosenPasses {
             out.new.items ≡ out.old.items ++ code_of planes self.now id) }
     {
         let n = self.geometry.number(id);
-        self.blocks.push_code(n, self.choice[n as usize], out)?;
+        self.codes.push_code(n, out)?;
         Ok(())
     }
 

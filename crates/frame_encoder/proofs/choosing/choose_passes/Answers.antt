@@ -1,5 +1,7 @@
-use Rattle.std.proofs.Common.{◌≡◌, ◌∙◌, ℕ, refl, sym, subst}
+use Rattle.std.proofs.Common.{◌≡◌, ◌∙◌, ℕ, List, refl, sym, subst}
 use Rattle.budget_duals.specs.Held.{IsWithin}
+use Rattle.coded_blocks.specs.Coded.{AreCounts}
+use Rattle.coded_blocks.specs.Codes.{AreChosenCodes}
 use Rattle.dz_quantiser.specs.Bands.{AreUsable}
 use Rattle.dz_quantiser.specs.declared.steps.StepSizes.{StepSizes}
 use Rattle.frame_choice.specs.Blocks.{three_planes}
@@ -10,7 +12,7 @@ use Rattle.pnm_frames.specs.View.{picture_of}
 use Rattle.profile_reader.specs.Chosen.{Planes}
 use Rattle.frame_encoder.specs.Encoded.{planes_of}
 use Rattle.frame_encoder.proofs.Allowed.{are_low}
-use Rattle.frame_encoder.proofs.Chosen.{most_of}
+use Rattle.frame_encoder.proofs.Chosen.{coded_below, counts_of}
 use Rattle.frame_encoder.proofs.Planes.{chosen_with, coded_with, distortion_with, kept_with}
 use Rattle.frame_encoder.proofs.Planes.{planes_from}
 use Rattle.frame_encoder.proofs.Steps.{same_steps}
@@ -37,16 +39,25 @@ choose-requires-clause-within c =
     (sym (same_steps c.args.geometry.now.profile c.built_in-steps.result
     c.built_in-steps.ensures.guard c.built_in-steps.ensures.bands)) c.requires.limits
 
+pub chosen-requires : goal.chosen-requires
+chosen-requires c =
+    let planes = three_planes c.in_ok-made.made.c0 c.in_ok-made.made.c1 c.in_ok-made.made.c2 in
+    let coded = c.in_ok-blocks.ensures.coded planes refl refl refl in
+    subst (λ (counts : List ℕ). AreCounts c.in_ok-blocks.blocks counts)
+    (sym c.as_slice-4.ensures.value)
+    (counts_of c.args.geometry.now c.built_in-steps.result planes c.in_ok-blocks.blocks
+    c.in_ok-choice.choice.counts.items c.requires.geometry.levels coded
+    c.in_ok-choice.ensures.chosen.is_choice)
+
 pub invariant_of-passes : goal.invariant_of-passes
 invariant_of-passes c =
     let planes = three_planes c.in_ok-made.made.c0 c.in_ok-made.made.c1 c.in_ok-made.made.c2 in
-    let is = c.in_ok-choice.ensures.chosen.is_choice in
+    let codes = c.in_ok-codes.ensures c.args.geometry.now c.built_in-steps.result planes
+    (c.in_ok-blocks.ensures.coded planes refl refl refl) in
     record {
       levels = c.requires.geometry.levels;
-      blocks_count = c.in_ok-blocks.ensures.count;
-      choice_count = is.long;
-      most = most_of c.args.geometry.now c.built_in-steps.result planes _
-          c.in_ok-choice.choice.counts.items (c.in_ok-blocks.ensures.coded planes refl refl refl) is;
+      codes_count = codes.count;
+      choice_count = c.in_ok-choice.ensures.chosen.is_choice.long;
       packets_of = c.in_ok-choice.ensures.packets.geometry;
     }
 
@@ -74,10 +85,15 @@ unfolding first_planes
 returns-clause-frame c =
     let g = c.args.geometry.now in
     let planes = planes_of g (picture_of c.args.frame.now) in
+    let steps = built_in_steps g.profile in
+    let coded = coded_with g c.built_in-steps.result steps (first_planes c) planes (made_steps c)
+    (made_planes c) c.in_ok-blocks.blocks
+    (c.in_ok-blocks.ensures.coded (first_planes c) refl refl refl) in
     record {
-      coded = coded_with g c.built_in-steps.result (built_in_steps g.profile) (first_planes c)
-          planes (made_steps c) (made_planes c) _
-          (c.in_ok-blocks.ensures.coded (first_planes c) refl refl refl);
+      below = coded_below g steps planes c.in_ok-blocks.blocks coded;
+      codes = subst
+          (λ (counts : List ℕ). AreChosenCodes g steps planes counts c.in_ok-codes.codes)
+          c.as_slice-4.ensures.value (c.in_ok-codes.ensures g steps planes coded);
       keeps = kept_with g c.built_in-steps.result (built_in_steps g.profile) (first_planes c)
           planes (made_steps c) (made_planes c) c.in_ok-choice.choice.counts.items
           c.in_ok-choice.choice.packets c.in_ok-choice.ensures.packets;
