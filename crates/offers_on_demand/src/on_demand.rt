@@ -26,6 +26,7 @@ pub struct OnDemand<P: Passes + Drop> {
 impl<P: Passes + Drop> OnDemand<P> {
     /// Blocks of which no step is taken. The only refusal is out of memory.
     pub fn new(alloc: Global, passes: P) -> Result<OnDemand<P>, AllocError>
+        ensures passes { IfOk result (λ o. o.passes ≡ passes) }
         ensures blocks { IfOk result
             (λ o. ⟦<OnDemand<P> as Offers>⟧.blocks o ≡ P.blocks passes) }
         ensures done { IfOk result (λ o. (b : ℕ) → b < P.blocks passes →
@@ -42,6 +43,17 @@ impl<P: Passes + Drop> OnDemand<P> {
         ensures { result.now ≡ self.now.passes }
     {
         &self.passes
+    }
+
+    /// The blocks, as far as they are coded: of each the passes that its taken steps lead to, at
+    /// the least.
+    pub fn into_passes(self) -> P
+        ensures same { result ≡ self.passes }
+        ensures coded { (b : ℕ) → b < P.blocks self.passes →
+            end_of 0 (⟦<OnDemand<P> as Offers>⟧.done self b) < length (P.known result b) }
+    {
+        let OnDemand { passes, .. } = self;
+        passes
     }
 
     /// How many passes of a block are taken, where its steps that were taken end. They are coded.

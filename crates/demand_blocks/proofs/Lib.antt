@@ -1,0 +1,4 @@
+pub mod ByNumber
+pub mod Moving
+pub mod Points
+pub mod Resuming
