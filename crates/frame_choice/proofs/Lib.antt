@@ -1,6 +1,7 @@
 pub mod Taking
 pub mod StepEntry
-pub mod WithoutPasses
+pub mod Demanding
+pub mod Walked
 pub mod KnownSteps
 pub mod HullLemmas
 pub mod NoPasses

@@ -13,7 +13,6 @@ use Rattle.allocation_bound.specs.Sums.{upto}
 use Rattle.allocation_bound.proofs.SumLemmas.{upto_le, upto_same}
 use Rattle.budget_duals.specs.Certified.{IsReady}
 use Rattle.budget_duals.specs.Frame.{AreLow}
-use Rattle.budget_duals.specs.Listed.{steps_of}
 use Rattle.budget_duals.specs.Price.{AreCounts}
 use Rattle.budget_duals.specs.declared.limits.Limits.{Limits}
 use Rattle.profile_reader.specs.Chosen.{Planes, choice_distortion, chosen_passes}
@@ -24,8 +23,8 @@ use Rattle.frame_choice.specs.Choice.{IsChoice, block_distortion, block_passes, 
 use Rattle.frame_choice.specs.Chosen.{undecoded}
 use Rattle.frame_choice.specs.Hulls.{AreHulls}
 use Rattle.frame_choice.specs.NumberLaws.{block_is, is_block, number_below}
-use Rattle.frame_choice.specs.PriceLaws.{planes_of}
-use Rattle.frame_choice.specs.declared.coded.CodedFrame.{CodedFrame}
+use Rattle.frame_choice.specs.PriceLaws.{planes_in}
+use Rattle.frame_choice.specs.declared.quantised.QuantisedFrame.{QuantisedFrame}
 use Rattle.frame_choice.proofs.BlockSteps.{CanBeTaken, can_be_taken, upto_each}
 use Rattle.frame_choice.proofs.FewBlocks.{few_blocks}
 use Rattle.frame_choice.proofs.HullLemmas.{point_is, points_long}
@@ -70,9 +69,8 @@ is_choice g planes counts are = record {
 
 -- ---- what is asked
 
-module _ (f : CodedFrame) (all : List Step)
-    (are : AreHulls f.geometry.now f.steps.now (planes_of f) (length (all_blocks f.geometry.now))
-    all) where
+module _ (f : QuantisedFrame) (all : ℕ → List Step)
+    (are : AreHulls f.geometry.now f.steps.now (planes_in f) all) where
   abbrev g : Geometry
   g = f.geometry.now
 
@@ -80,60 +78,60 @@ module _ (f : CodedFrame) (all : List Step)
   blocks = length (all_blocks g)
 
   most_of : ℕ → ℕ
-  most_of n = block_passes g (planes_of f) (block_numbered g n)
+  most_of n = block_passes g (planes_in f) (block_numbered g n)
 
   few : blocks ≤ 26292
   few = few_blocks g f.levels
 
-  long : length (most_passes g (planes_of f)) ≡ blocks
-  long = length-map (all_blocks g) (block_passes g (planes_of f))
+  long : length (most_passes g (planes_in f)) ≡ blocks
+  long = length-map (all_blocks g) (block_passes g (planes_in f))
 
   taken : (n : ℕ) → n < blocks →
-      CanBeTaken (points_of g f.steps.now (planes_of f) (block_numbered g n))
-      (block_passes g (planes_of f) (block_numbered g n)) (steps_of n all)
+      CanBeTaken (points_of g f.steps.now (planes_in f) (block_numbered g n))
+      (block_passes g (planes_in f) (block_numbered g n)) (all n)
   taken n below =
-      can_be_taken n (points_of g f.steps.now (planes_of f) (block_numbered g n))
-      (block_passes g (planes_of f) (block_numbered g n)) (steps_of n all)
-      (points_long g f.steps.now (planes_of f) (block_numbered g n)) (are.points n below)
+      can_be_taken n (points_of g f.steps.now (planes_in f) (block_numbered g n))
+      (block_passes g (planes_in f) (block_numbered g n)) (all n)
+      (points_long g f.steps.now (planes_in f) (block_numbered g n)) (are.points n below)
       (are.hulls n below)
 
   first_dist : (n : ℕ) → n < blocks →
-      (point_at (points_of g f.steps.now (planes_of f) (block_numbered g n)) 0).dist
-      ≡ block_undecoded g (planes_of f) n
+      (point_at (points_of g f.steps.now (planes_in f) (block_numbered g n)) 0).dist
+      ≡ block_undecoded g (planes_in f) n
   first_dist n below =
       ap (λ p. p.dist)
-      (point_is g f.steps.now (planes_of f) (block_numbered g n) 0 (omega arith))
+      (point_is g f.steps.now (planes_in f) (block_numbered g n) 0 (omega arith))
 
-  gained : upto blocks (λ n. gains (steps_of n all)) ≤ undecoded g (planes_of f)
+  gained : upto blocks (λ n. gains (all n)) ≤ undecoded g (planes_in f)
   gained =
-      let each = upto_le blocks (λ n. gains (steps_of n all)) (block_undecoded g (planes_of f))
+      let each = upto_le blocks (λ n. gains (all n)) (block_undecoded g (planes_in f))
       (λ n below. (let gain = (taken n below).gain in
       let first = first_dist n below in omega (arith, gain, first))) in
-      let is = undecoded_is g (planes_of f) in
+      let is = undecoded_is g (planes_in f) in
       omega (arith, each, is)
 
-  narrow : undecoded g (planes_of f) < 2 ^ 90
+  narrow : undecoded g (planes_in f) < 2 ^ 90
   narrow =
-      let each = upto_each blocks (2 ^ 64) (block_undecoded g (planes_of f))
+      let each = upto_each blocks (2 ^ 64) (block_undecoded g (planes_in f))
       (λ n below. (let wide = ((are.points n below).each 0 (are.points n below).first).wide in
       let first = first_dist n below in omega (arith, wide, first))) in
-      let is = undecoded_is g (planes_of f) in
+      let is = undecoded_is g (planes_in f) in
       let count = few in
       omega (arith, each, is, count)
 
-  written : upto blocks (λ n. lens (steps_of n all)) < 2 ^ 32
+  written : upto blocks (λ n. lens (all n)) < 2 ^ 32
   written =
-      let each = upto_each blocks 131072 (λ n. lens (steps_of n all))
+      let each = upto_each blocks 131072 (λ n. lens (all n))
       (λ n below. (taken n below).bytes) in
       let count = few in
       omega (arith, each, count)
 
-  pub ready : (limits : Limits) (start : ℕ) → start ≡ undecoded g (planes_of f) →
+  pub ready : (limits : Limits) (start : ℕ) → start ≡ undecoded g (planes_in f) →
       AreLow limits → is_some limits.inner ≡ has_inner g.profile →
-      IsReady limits (most_passes g (planes_of f)) (no_passes g) (inside_at g)
-      (held_at g f.steps.now (planes_of f)) (λ b. steps_of b all) start
+      IsReady limits (most_passes g (planes_in f)) (no_passes g) (inside_at g)
+      (held_at g f.steps.now (planes_in f)) all start
   ready limits start is low inner =
-      let within : (n : ℕ) → n < length (most_passes g (planes_of f)) → n < blocks =
+      let within : (n : ℕ) → n < length (most_passes g (planes_in f)) → n < blocks =
       λ n below. subst (λ m. n < m) long below in
       record {
         unpassed = λ n below. zero_at blocks n;
@@ -141,13 +139,13 @@ module _ (f : CodedFrame) (all : List Step)
           follow = λ n below. (taken n (within n below)).follow;
           fall = λ n below. (taken n (within n below)).fall;
           to = λ n below.
-              subst (λ m. AllByRecursion (λ (s : Step). s.to ≤ m) (steps_of n all))
-              (sym (most_at g (planes_of f) n 0 (within n below))) (taken n (within n below)).to;
+              subst (λ m. AllByRecursion (λ (s : Step). s.to ≤ m) (all n))
+              (sym (most_at g (planes_in f) n 0 (within n below))) (taken n (within n below)).to;
         };
-        gain = subst (λ m. upto m (λ n. gains (steps_of n all)) ≤ start) (sym long)
-            (subst (λ m. upto blocks (λ n. gains (steps_of n all)) ≤ m) (sym is) gained);
+        gain = subst (λ m. upto m (λ n. gains (all n)) ≤ start) (sym long)
+            (subst (λ m. upto blocks (λ n. gains (all n)) ≤ m) (sym is) gained);
         wide = subst (λ m. m < 2 ^ 90) (sym is) narrow;
-        bytes = subst (λ m. upto m (λ n. lens (steps_of n all)) < 2 ^ 32) (sym long) written;
+        bytes = subst (λ m. upto m (λ n. lens (all n)) < 2 ^ 32) (sym long) written;
         low = low;
         members = λ n below.
             are_members limits.inner g.profile g.levels (block_numbered g n).component

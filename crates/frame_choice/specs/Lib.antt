@@ -5,6 +5,8 @@ pub mod Headers
 -- Blocks by their numbers.
 pub mod Blocks
 pub mod NumberLaws
+-- Blocks whose passes are coded on demand.
+pub mod Demanded
 -- What is kept of blocks at the present choice.
 pub mod Present
 -- The law of what the budgets of a frame hold.

@@ -10,21 +10,11 @@ use Rattle.frame_choice.specs.Blocks.{inside_at, most_passes, three_planes}
 use Rattle.frame_choice.specs.Choice.{block_passes, held_at}
 use Rattle.frame_choice.specs.HeldLaws.{held_law}
 use Rattle.frame_choice.specs.Present.{IsKnownStep}
-use Rattle.frame_choice.specs.declared.coded.CodedFrame.{CodedFrame}
 use Rattle.frame_choice.specs.declared.quantised.QuantisedFrame.{QuantisedFrame}
 
--- the coefficients of a frame whose code-blocks are coded, and of one of quantised coefficients
-abbrev pub planes_of : CodedFrame → Planes
-planes_of f = three_planes f.c0.now f.c1.now f.c2.now
-
+-- the coefficients of a frame
 abbrev pub planes_in : QuantisedFrame → Planes
 planes_in q = three_planes q.c0.now q.c1.now q.c2.now
-
--- a frame of quantised coefficients is that of a coded one
-pub record IsQuantised (f : CodedFrame) (q : QuantisedFrame) : Type 0 where
-  pub geometry : q.geometry.now ≡ f.geometry.now
-  pub steps : q.steps.now ≡ f.steps.now
-  pub planes : planes_in q ≡ planes_of f
 
 -- the same geometry, steps and coefficients
 pub record Same (a b : QuantisedFrame) : Type 0 where

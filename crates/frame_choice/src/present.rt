@@ -2,10 +2,12 @@
 ghost use Rattle.std.specs.Prelude.{◌<◌, IfOk, length};
 ghost use Rattle.band_geometry.specs.Numbering.{all_blocks};
 ghost use Rattle.frame_choice.specs.Blocks.{block_numbered};
+ghost use Rattle.frame_choice.specs.Demanded.{AreDemanded};
 ghost use Rattle.frame_choice.specs.Present.{IsPresent, ArePresentBelow};
-ghost use Rattle.frame_choice.specs.PriceLaws.{planes_of};
+ghost use Rattle.frame_choice.specs.PriceLaws.{planes_in};
 
-use crate::coded::CodedFrame;
+use crate::quantised::QuantisedFrame;
+use demand_blocks::DemandBlocks;
 use std::alloc::{AllocError, Global};
 
 /// What is kept of a code-block at the present choice of passes.
@@ -17,30 +19,21 @@ pub struct PresentBlock {
     pub planes: u8,
 }
 
-// A block without any pass chosen. Of P bit-planes it has 3 P - 2 passes, and none where P is 0.
-fn unpassed(frame: &CodedFrame, block: u32) -> PresentBlock
-    requires { block < length (all_blocks frame.now.geometry.now) }
-    ensures { IsPresent frame.now.geometry.now frame.now.steps.now (planes_of frame.now)
-        (block_numbered frame.now.geometry.now block) 0 result }
-{
-    PresentBlock {
-        bytes: 0,
-        planes: (frame.blocks.passes(block) + 2) / 3,
-    }
-}
-
 // The blocks of a frame without any pass chosen. The only refusal is out of memory.
 pub(crate) fn none_present(
     alloc: Global,
-    frame: &CodedFrame,
+    frame: &QuantisedFrame,
+    blocks: &DemandBlocks,
 ) -> Result<Vec<PresentBlock>, AllocError>
+    requires { AreDemanded frame.now.geometry.now (planes_in frame.now) blocks.now.blocks.items }
     ensures { IfOk result (λ present. ArePresentBelow frame.now.geometry.now frame.now.steps.now
-        (planes_of frame.now) (λ n. 0) (length (all_blocks frame.now.geometry.now))
+        (planes_in frame.now) (λ n. 0) (length (all_blocks frame.now.geometry.now))
         present.items) }
 {
     let mut present = Vec::new(alloc);
-    for block in 0..frame.geometry.blocks() {
-        present.push(unpassed(frame, block))?;
+    for n in 0..frame.geometry.blocks() {
+        let planes = blocks.block(n).planes();
+        present.push(PresentBlock { bytes: 0, planes })?;
     }
     Ok(present)
 }

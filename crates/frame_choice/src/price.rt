@@ -6,11 +6,11 @@ ghost use Rattle.frame_choice.specs.Present.{ArePresent};
 ghost use Rattle.frame_packets.specs.Keeps.{Keeps};
 ghost use Rattle.profile_reader.specs.Chosen.{chosen};
 
-use crate::coded::CodedFrame;
 use crate::present::{PresentBlock, none_present};
 use crate::quantised::QuantisedFrame;
 use band_geometry::BlockId;
 use budget_duals::{Held, Members, Price};
+use demand_blocks::DemandBlocks;
 use frame_packets::FramePackets;
 use packet_headers::Entry;
 use rd_hulls::Step;
@@ -44,25 +44,29 @@ impl<'a> FramePrice<'a> {
     ghost use Rattle.frame_packets.specs.Keeps.{nothing};
     ghost use Rattle.packet_headers.specs.Written.{CanWriteEntry};
     ghost use Rattle.frame_choice.specs.Blocks.{block_numbered};
+    ghost use Rattle.frame_choice.specs.Demanded.{AreDemanded};
     ghost use Rattle.frame_choice.specs.Present.{IsKnownStep, block_written};
-    ghost use Rattle.frame_choice.specs.PriceLaws.{IsQuantised, planes_in};
+    ghost use Rattle.frame_choice.specs.PriceLaws.{planes_in};
 
-    /// The choice of no passes, where `packets` has no included block. The only refusal is out of
-    /// memory.
+    /// The choice of no passes, where `packets` has no included block. `blocks` are the code-blocks
+    /// of the frame. The only refusal is out of memory.
     pub fn new(
         alloc: Global,
-        frame: CodedFrame<'a>,
+        frame: QuantisedFrame<'a>,
+        blocks: &DemandBlocks,
         packets: FramePackets,
     ) -> Result<FramePrice<'a>, AllocError>
-        requires { Keeps frame.geometry.now frame.steps.now nothing packets }
-        ensures frame { IfOk result (λ price. IsQuantised frame.entry price.frame) }
+        requires blocks { AreDemanded frame.geometry.now (planes_in frame)
+            blocks.now.blocks.items }
+        requires packets { Keeps frame.geometry.now frame.steps.now nothing packets }
+        ensures frame { IfOk result (λ price. price.frame ≡ frame.entry) }
         ensures counts { IfOk result (λ price. price.counts.items
             ≡ replicate (length (all_blocks frame.entry.geometry.now)) 0) }
     {
         let counts = vec![in alloc; 0u8; frame.geometry.blocks() as usize]?;
-        let present = none_present(alloc, &frame)?;
+        let present = none_present(alloc, &frame, blocks)?;
         Ok(FramePrice {
-            frame: frame.quantised(),
+            frame,
             counts,
             present,
             packets,

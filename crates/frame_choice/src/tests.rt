@@ -1,22 +1,19 @@
 // Frames of one sample, whose numbers are known from outside, and one of the largest size.
-ghost use Rattle.std.specs.Prelude.{ℕ, ◌*◌, ◌^◌, ◌≡◌, ◌<◌, IfOk, length};
-ghost use Rattle.std.specs.List.{AllByRecursion};
-ghost use Rattle.budget_duals.specs.Listed.{steps_of};
+ghost use Rattle.std.specs.Prelude.{◌*◌, ◌^◌, ◌≡◌, ◌<◌, IfOk};
 ghost use Rattle.cine_nums.specs.declared.profile.Profile.TheVariants.{TwoK};
 ghost use Rattle.dz_quantiser.specs.Bands.{AreUsable};
 ghost use Rattle.coded_blocks.specs.Frame.{CanBeCoded};
-ghost use Rattle.frame_choice.specs.Blocks.{most_passes};
-ghost use Rattle.frame_choice.specs.Present.{IsKnownStep};
-ghost use Rattle.frame_choice.specs.PriceLaws.{planes_in};
 
-use crate::{Choice, CodedFrame, FramePrice, choose, steps};
+use crate::blocks::frame_blocks;
+use crate::{Choice, FramePrice, QuantisedFrame, choose};
 use band_geometry::Geometry;
-use budget_duals::{Limits, Price, RefusedStep};
+use budget_duals::{Limits, Offer, Offers, Price, RefusedStep};
 use cine_nums::{Budget, Profile};
 use codeblock_views::CoefPlane;
-use coded_blocks::CodedBlocks;
+use demand_blocks::DemandBlocks;
 use dz_quantiser::{Coef, StepSizes};
 use frame_packets::FramePackets;
+use offers_on_demand::OnDemand;
 use rd_hulls::Step;
 use std::alloc::{AllocError, Global};
 use std::test::Fail;
@@ -37,76 +34,30 @@ fn plane_of(
     Ok(plane)
 }
 
-/// What the whole frame would hold after the first of these steps, and 0 where there is none or it
-/// can't be taken.
-fn after(price: &FramePrice, steps: &[Step]) -> u32
-    requires known { (b : ℕ) → b < length (most_passes price.now.frame.geometry.now
-        (planes_in price.now.frame)) →
-        AllByRecursion (IsKnownStep price.now.frame.geometry.now price.now.frame.steps.now
-        (planes_in price.now.frame)) (steps_of b steps.now) }
-{
-    if steps.len() == 0 {
-        return 0;
+/// The first step that block 0 offers, when as many of its passes are coded as it takes.
+fn first_step(mut offers: OnDemand<DemandBlocks>) -> Option<Step> {
+    for _ in 0..59 {
+        if offers.count() == 0 {
+            return None;
+        }
+        match offers.offer(0) {
+            Offer::Step(step) => {
+                return Some(step);
+            }
+            Offer::AtMost(_) => offers.look(0),
+            Offer::Nothing => {
+                return None;
+            }
+        }
     }
-    let step = steps[0];
-    let block = step.block;
-    if block < price.count()
-        && price.counts[block as usize] == step.from
-        && step.to <= price.passes(block)
-    {
-        price.after(&step).frame
-    } else {
-        0
-    }
-}
-
-/// What the whole frame would hold after the first step of its hulls.
-fn first_after(alloc: Global, frame: CodedFrame) -> Result<u32, AllocError> {
-    let all = steps(alloc, &frame)?;
-    let packets = FramePackets::empty(alloc, frame.geometry, frame.steps)?;
-    let price = FramePrice::new(alloc, frame, packets)?;
-    Ok(after(&price, all.as_slice()))
-}
-
-// The magnitude 64 has 7 bit-planes and 19 passes. Its hull has one step from no pass to 18, which
-// leave no distortion; their code is the byte 04, and the packet's header C0 07 D8 02.
-#[test]
-fn the_magnitude_64(rt: HostRuntime) -> Result<(), Fail> {
-    let alloc = rt.alloc();
-    let geometry = Geometry::new(Profile::TwoK, 5, 1, 1);
-    let sizes = StepSizes::built_in(Profile::TwoK);
-    let c0 = plane_of(alloc, &geometry, &sizes, 64)?;
-    let zeros = plane_of(alloc, &geometry, &sizes, 0)?;
-    let blocks = CodedBlocks::code(alloc, &geometry, &sizes, &c0, &zeros, &zeros)?;
-    let frame = CodedFrame {
-        geometry: &geometry,
-        steps: &sizes,
-        c0: &c0,
-        c1: &zeros,
-        c2: &zeros,
-        blocks: &blocks,
-    };
-    let step = Step {
-        block: 0,
-        from: 0,
-        to: 18,
-        len: 1,
-        gain: 16_641,
-    };
-    assert_eq!(rt; steps(alloc, &frame)?.as_slice(), [step].as_slice());
-    let packets = FramePackets::empty(alloc, &geometry, &sizes)?;
-    let price = FramePrice::new(alloc, frame, packets)?;
-    assert_eq!(rt; (price.count(), price.held().frame), (3, 191));
-    assert_eq!(rt; first_after(alloc, frame)?, 195);
-    assert_eq!(rt; price.held().component, [20, 20, 20]);
-    Ok(())
+    None
 }
 
 /// Chooses the passes of a 2K frame under limits of the whole codestream and of component 1. None
 /// where a codestream without any pass holds more.
 fn choose_under(
     alloc: Global,
-    frame: CodedFrame,
+    frame: QuantisedFrame,
     whole: u32,
     second: u32,
 ) -> Result<Option<Choice>, AllocError>
@@ -152,6 +103,58 @@ fn says(
     }
 }
 
+/// The codes of a choice's blocks, those of each after the byte 1.
+fn written(alloc: Global, found: &Option<Choice>) -> Result<Vec<u8>, AllocError> {
+    let mut out = Vec::new(alloc);
+    if let Some(choice) = found {
+        for n in 0..choice.codes.count() {
+            out.push(1)?;
+            if n < 24 {
+                choice.codes.push_code(n as u32, &mut out)?;
+            }
+        }
+    }
+    Ok(out)
+}
+
+// The magnitude 64 has 7 bit-planes and 19 passes. Its hull has one step from no pass to 18, which
+// leave no distortion; their code is the byte 04, and the packet's header C0 07 D8 02.
+#[test]
+fn the_magnitude_64(rt: HostRuntime) -> Result<(), Fail> {
+    let alloc = rt.alloc();
+    let geometry = Geometry::new(Profile::TwoK, 5, 1, 1);
+    let sizes = StepSizes::built_in(Profile::TwoK);
+    let c0 = plane_of(alloc, &geometry, &sizes, 64)?;
+    let zeros = plane_of(alloc, &geometry, &sizes, 0)?;
+    let frame = QuantisedFrame {
+        geometry: &geometry,
+        steps: &sizes,
+        c0: &c0,
+        c1: &zeros,
+        c2: &zeros,
+    };
+    let blocks = frame_blocks(alloc, &frame)?;
+    let packets = FramePackets::empty(alloc, &geometry, &sizes)?;
+    let price = FramePrice::new(alloc, frame, &blocks, packets)?;
+    assert_eq!(rt; (price.count(), price.held().frame), (3, 191));
+    assert_eq!(rt; price.held().component, [20, 20, 20]);
+    let step = Step {
+        block: 0,
+        from: 0,
+        to: 18,
+        len: 1,
+        gain: 16_641,
+    };
+    assert_eq!(rt; first_step(OnDemand::new(alloc, blocks)?), Some(step));
+    let found = choose_under(alloc, frame, 195, 20)?;
+    assert_eq!(rt;
+        written(alloc, &found)?.as_slice(),
+        [1, 0x04, 1, 1].as_slice()
+    );
+    assert!(rt; says(found, &[18, 0, 0], 195, [0; 5], 0, (16_641, 0), &[]));
+    Ok(())
+}
+
 // Two blocks, of components 0 and 1, have the magnitude 64: the step of each has one byte of code,
 // and the header of its packet grows by three. The codestream without any pass has 191 bytes, and
 // the tile-part of a component 20.
@@ -162,14 +165,12 @@ fn chooses_among_two_blocks(rt: HostRuntime) -> Result<(), Fail> {
     let sizes = StepSizes::built_in(Profile::TwoK);
     let plane = plane_of(alloc, &geometry, &sizes, 64)?;
     let zeros = plane_of(alloc, &geometry, &sizes, 0)?;
-    let blocks = CodedBlocks::code(alloc, &geometry, &sizes, &plane, &plane, &zeros)?;
-    let frame = CodedFrame {
+    let frame = QuantisedFrame {
         geometry: &geometry,
         steps: &sizes,
         c0: &plane,
         c1: &plane,
         c2: &zeros,
-        blocks: &blocks,
     };
     let refused = |budget: Budget, block: u32| RefusedStep {
         budget,
@@ -185,6 +186,10 @@ fn chooses_among_two_blocks(rt: HostRuntime) -> Result<(), Fail> {
     };
     // Both fit.
     let found = choose_under(alloc, frame, 199, 24)?;
+    assert_eq!(rt;
+        written(alloc, &found)?.as_slice(),
+        [1, 0x04, 1, 0x04, 1].as_slice()
+    );
     assert!(rt; says(found, &[18, 18, 0], 199, [0; 5], 0, (33_282, 0), &[]));
     // The frame has 3 bytes unused, one too few for the second, and then for either.
     let slope = 71_472_550_772_736;
@@ -238,14 +243,12 @@ fn the_largest_frame_of_2k(rt: HostRuntime) -> Result<(), Fail> {
     let geometry = Geometry::new(Profile::TwoK, 5, 2048, 1080);
     let sizes = StepSizes::built_in(Profile::TwoK);
     let zeros = plane_of(alloc, &geometry, &sizes, 0)?;
-    let blocks = CodedBlocks::code(alloc, &geometry, &sizes, &zeros, &zeros, &zeros)?;
-    let frame = CodedFrame {
+    let frame = QuantisedFrame {
         geometry: &geometry,
         steps: &sizes,
         c0: &zeros,
         c1: &zeros,
         c2: &zeros,
-        blocks: &blocks,
     };
     let found = choose_under(alloc, frame, 1_302_083, 1_041_666)?;
     let counts = vec![in alloc; 0u8; 6708]?;

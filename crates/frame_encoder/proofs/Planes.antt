@@ -1,11 +1,14 @@
 -- The coefficients that were made of a frame are those of its picture.
-use Rattle.std.proofs.Common.{◌≡◌, ◌∙◌, ℕ, List, [], ◌∷◌, ap, get_or, subst}
+use Rattle.std.proofs.Common.{◌≡◌, ◌≤◌, ◌∙◌, ℕ, List, [], ◌∷◌, ap, get_or, subst}
+use Rattle.band_geometry.specs.Bands.{IsBlock}
 use Rattle.band_geometry.specs.declared.geometry.Geometry.{Geometry}
+use Rattle.band_geometry.specs.declared.places.BlockId.{BlockId}
 use Rattle.budget_duals.specs.declared.certificate.Certificate.{Certificate}
 use Rattle.budget_duals.specs.declared.limits.Limits.{Limits}
-use Rattle.coded_blocks.specs.Coded.{AreCoded}
-use Rattle.coded_blocks.specs.declared.blocks.CodedBlocks.{CodedBlocks}
+use Rattle.coded_blocks.specs.Codes.{AreChosenCodes}
+use Rattle.coded_blocks.specs.declared.codes.ChosenCodes.{ChosenCodes}
 use Rattle.codeblock_views.specs.declared.plane.CoefPlane.{CoefPlane}
+use Rattle.dz_quantiser.specs.Bands.{band_planes}
 use Rattle.dz_quantiser.specs.declared.steps.StepSizes.{StepSizes}
 use Rattle.frame_choice.specs.Blocks.{three_planes}
 use Rattle.frame_choice.specs.Chosen.{IsChosen}
@@ -13,7 +16,7 @@ use Rattle.frame_coefficients.specs.BuiltIn.{built_in_steps}
 use Rattle.frame_coefficients.specs.Frame.{coefficients_of}
 use Rattle.frame_packets.specs.Keeps.{FrameKept, Keeps}
 use Rattle.pnm_frames.specs.Picture.{Picture}
-use Rattle.profile_reader.specs.Chosen.{Planes, chosen, choice_distortion}
+use Rattle.profile_reader.specs.Chosen.{Planes, block_shape, chosen, choice_distortion}
 use Rattle.frame_encoder.specs.Encoded.{plane_of, planes_of}
 
 plane_made : (g : Geometry) (p : Picture) (steps : StepSizes) (i : ℕ) (xs ys zs : List ℕ) →
@@ -47,11 +50,20 @@ planes_from g p steps c0 c1 c2 xs ys zs same x y z first second third =
 -- What holds of the steps and planes that were made holds of those of the profile and the picture.
 module _ (g : Geometry) (made steps : StepSizes) (first planes : Planes) (same : made ≡ steps)
     (same_planes : first ≡ planes) where
-  pub coded_with : (blocks : CodedBlocks) → AreCoded g made first blocks →
-      AreCoded g steps planes blocks
-  coded_with blocks coded =
-      subst (λ (f : Planes). AreCoded g steps f blocks) same_planes
-      (subst (λ (s : StepSizes). AreCoded g s first blocks) same coded)
+  pub below_with : ((b : BlockId) → IsBlock g b →
+      (block_shape g first b).planes ≤ band_planes made b.res b.orient) → (b : BlockId) →
+      IsBlock g b → (block_shape g planes b).planes ≤ band_planes steps b.res b.orient
+  below_with below b is =
+      subst (λ (f : Planes). (block_shape g f b).planes ≤ band_planes steps b.res b.orient)
+      same_planes
+      (subst (λ (s : StepSizes). (block_shape g first b).planes ≤ band_planes s b.res b.orient)
+      same (below b is))
+
+  pub codes_with : (choice : List ℕ) (codes : ChosenCodes) →
+      AreChosenCodes g made first choice codes → AreChosenCodes g steps planes choice codes
+  codes_with choice codes are =
+      subst (λ (f : Planes). AreChosenCodes g steps f choice codes) same_planes
+      (subst (λ (s : StepSizes). AreChosenCodes g s first choice codes) same are)
 
   pub chosen_with : (limits : Limits) (choice : List ℕ) (c : Certificate) →
       IsChosen g made first limits choice c → IsChosen g steps planes limits choice c

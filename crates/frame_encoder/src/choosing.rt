@@ -12,9 +12,8 @@ ghost use Rattle.frame_encoder.specs.Writing.{IsFrameOf};
 use crate::writing::ChosenPasses;
 use band_geometry::Geometry;
 use budget_duals::{Certificate, Limits};
-use coded_blocks::CodedBlocks;
 use dz_quantiser::StepSizes;
-use frame_choice::{CodedFrame, choose};
+use frame_choice::{QuantisedFrame, choose};
 use frame_coefficients::coefficients;
 use frame_packets::FramePackets;
 use pnm_frames::Frame;
@@ -30,8 +29,8 @@ pub struct FrameChoice {
 }
 
 /// Chooses the coding passes of a frame of this geometry, for which no limit is too small. When
-/// they are chosen the coefficients are dropped and so are the coded blocks: the bytes of the
-/// chosen passes are kept.
+/// they are chosen the coefficients are dropped, and with them the blocks that were coded: the
+/// bytes of the chosen passes are kept.
 pub fn choose_passes(
     alloc: Global,
     geometry: &Geometry,
@@ -59,21 +58,18 @@ pub fn choose_passes(
         frame.y.as_slice(),
         frame.z.as_slice(),
     )?;
-    let blocks = CodedBlocks::code(alloc, geometry, &steps, &made.c0, &made.c1, &made.c2)?;
     let packets = FramePackets::empty(alloc, geometry, &steps)?;
-    let coded = CodedFrame {
+    let quantised = QuantisedFrame {
         geometry,
         steps: &steps,
         c0: &made.c0,
         c1: &made.c1,
         c2: &made.c2,
-        blocks: &blocks,
     };
-    let choice = choose(alloc, coded, limits, packets)?;
-    let codes = blocks.chosen(alloc, choice.counts.as_slice())?;
+    let choice = choose(alloc, quantised, limits, packets)?;
     let passes = ChosenPasses {
         geometry: *geometry,
-        codes,
+        codes: choice.codes,
         choice: choice.counts,
         packets: choice.packets,
     };

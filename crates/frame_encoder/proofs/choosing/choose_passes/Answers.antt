@@ -1,7 +1,6 @@
-use Rattle.std.proofs.Common.{◌≡◌, ◌∙◌, ℕ, List, refl, sym, subst}
+use Rattle.std.proofs.Common.{◌≡◌, ◌∙◌, ℕ, refl, sym, subst}
 use Rattle.budget_duals.specs.Held.{IsWithin}
-use Rattle.coded_blocks.specs.Coded.{AreCounts}
-use Rattle.coded_blocks.specs.Codes.{AreChosenCodes}
+use Rattle.coded_blocks.proofs.Planes.{few_planes_of}
 use Rattle.dz_quantiser.specs.Bands.{AreUsable}
 use Rattle.dz_quantiser.specs.declared.steps.StepSizes.{StepSizes}
 use Rattle.frame_choice.specs.Blocks.{three_planes}
@@ -12,21 +11,25 @@ use Rattle.pnm_frames.specs.View.{picture_of}
 use Rattle.profile_reader.specs.Chosen.{Planes}
 use Rattle.frame_encoder.specs.Encoded.{planes_of}
 use Rattle.frame_encoder.proofs.Allowed.{are_low}
-use Rattle.frame_encoder.proofs.Chosen.{coded_below, counts_of}
-use Rattle.frame_encoder.proofs.Planes.{chosen_with, coded_with, distortion_with, kept_with}
-use Rattle.frame_encoder.proofs.Planes.{planes_from}
+use Rattle.frame_encoder.proofs.Planes.{below_with, chosen_with, codes_with, distortion_with}
+use Rattle.frame_encoder.proofs.Planes.{kept_with, planes_from}
 use Rattle.frame_encoder.proofs.Steps.{same_steps}
 use Rattle.frame_encoder.proofs.choosing.choose_passes.Goals.{After-drop-made-4}
 use Rattle.frame_encoder.proofs.choosing.choose_passes.Goals as goal
 
-pub invariant_of-coded : goal.invariant_of-coded
-invariant_of-coded c = record {
-  levels = c.requires.geometry.levels;
-  usable = subst (λ (n : ℕ). AreUsable n c.built_in-steps.result)
-      (sym c.requires.geometry.levels) c.built_in-steps.ensures.usable;
-  coded = c.in_ok-blocks.ensures.coded
-      (three_planes c.in_ok-made.made.c0 c.in_ok-made.made.c1 c.in_ok-made.made.c2) refl refl refl;
-}
+pub invariant_of-quantised : goal.invariant_of-quantised
+invariant_of-quantised c =
+    let size = c.in_ok-made.ensures.size in
+    let small = c.in_ok-made.ensures.magnitudes in
+    let below = c.in_ok-made.ensures.below in
+    record {
+      levels = c.requires.geometry.levels;
+      usable = subst (λ (n : ℕ). AreUsable n c.built_in-steps.result)
+          (sym c.requires.geometry.levels) c.built_in-steps.ensures.usable;
+      first = record { size = size.0; small = small.0; below = below.0 };
+      second = record { size = size.1; small = small.1; below = below.1 };
+      third = record { size = size.2; small = small.2; below = below.2 };
+    }
 
 pub choose-requires-clause-low : goal.choose-requires-clause-low
 choose-requires-clause-low c =
@@ -39,27 +42,13 @@ choose-requires-clause-within c =
     (sym (same_steps c.args.geometry.now.profile c.built_in-steps.result
     c.built_in-steps.ensures.guard c.built_in-steps.ensures.bands)) c.requires.limits
 
-pub chosen-requires : goal.chosen-requires
-chosen-requires c =
-    let planes = three_planes c.in_ok-made.made.c0 c.in_ok-made.made.c1 c.in_ok-made.made.c2 in
-    let coded = c.in_ok-blocks.ensures.coded planes refl refl refl in
-    subst (λ (counts : List ℕ). AreCounts c.in_ok-blocks.blocks counts)
-    (sym c.as_slice-4.ensures.value)
-    (counts_of c.args.geometry.now c.built_in-steps.result planes c.in_ok-blocks.blocks
-    c.in_ok-choice.choice.counts.items c.requires.geometry.levels coded
-    c.in_ok-choice.ensures.chosen.is_choice)
-
 pub invariant_of-passes : goal.invariant_of-passes
-invariant_of-passes c =
-    let planes = three_planes c.in_ok-made.made.c0 c.in_ok-made.made.c1 c.in_ok-made.made.c2 in
-    let codes = c.in_ok-codes.ensures c.args.geometry.now c.built_in-steps.result planes
-    (c.in_ok-blocks.ensures.coded planes refl refl refl) in
-    record {
-      levels = c.requires.geometry.levels;
-      codes_count = codes.count;
-      choice_count = c.in_ok-choice.ensures.chosen.is_choice.long;
-      packets_of = c.in_ok-choice.ensures.packets.geometry;
-    }
+invariant_of-passes c = record {
+  levels = c.requires.geometry.levels;
+  codes_count = c.in_ok-choice.ensures.codes.count;
+  choice_count = c.in_ok-choice.ensures.chosen.is_choice.long;
+  packets_of = c.in_ok-choice.ensures.packets.geometry;
+}
 
 -- the steps and the planes that were made are those of the profile and the picture
 made_steps : (c : After-drop-made-4) →
@@ -86,15 +75,21 @@ returns-clause-frame c =
     let g = c.args.geometry.now in
     let planes = planes_of g (picture_of c.args.frame.now) in
     let steps = built_in_steps g.profile in
-    let coded = coded_with g c.built_in-steps.result steps (first_planes c) planes (made_steps c)
-    (made_planes c) c.in_ok-blocks.blocks
-    (c.in_ok-blocks.ensures.coded (first_planes c) refl refl refl) in
+    let made = c.in_ok-made.made in
+    let size = c.in_ok-made.ensures.size in
+    let small = c.in_ok-made.ensures.magnitudes in
+    let below = c.in_ok-made.ensures.below in
     record {
-      below = coded_below g steps planes c.in_ok-blocks.blocks coded;
-      codes = subst
-          (λ (counts : List ℕ). AreChosenCodes g steps planes counts c.in_ok-codes.codes)
-          c.as_slice-4.ensures.value (c.in_ok-codes.ensures g steps planes coded);
-      keeps = kept_with g c.built_in-steps.result (built_in_steps g.profile) (first_planes c)
+      below = below_with g c.built_in-steps.result steps (first_planes c) planes (made_steps c)
+          (made_planes c)
+          (few_planes_of g c.built_in-steps.result (first_planes c) made.c0 made.c1 made.c2
+          (record { size = size.0; small = small.0; below = below.0 })
+          (record { size = size.1; small = small.1; below = below.1 })
+          (record { size = size.2; small = small.2; below = below.2 }) refl refl refl);
+      codes = codes_with g c.built_in-steps.result steps (first_planes c) planes (made_steps c)
+          (made_planes c) c.in_ok-choice.choice.counts.items c.in_ok-choice.choice.codes
+          c.in_ok-choice.ensures.codes;
+      keeps = kept_with g c.built_in-steps.result steps (first_planes c)
           planes (made_steps c) (made_planes c) c.in_ok-choice.choice.counts.items
           c.in_ok-choice.choice.packets c.in_ok-choice.ensures.packets;
     }

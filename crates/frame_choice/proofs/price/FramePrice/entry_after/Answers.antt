@@ -3,6 +3,7 @@ use Rattle.dz_quantiser.specs.Bands.{band_planes}
 use Rattle.profile_reader.specs.Chosen.{block_coefs, block_shape}
 use Rattle.frame_choice.specs.PriceLaws.{planes_in}
 use Rattle.frame_choice.specs.declared.present.PresentBlock.{PresentBlock}
+use Rattle.frame_choice.proofs.HullLemmas.{within_band}
 use Rattle.frame_choice.proofs.StepEntry.{entry_is, entry_can}
 use Rattle.frame_choice.proofs.Taking.{no_block, row_inside, row_is, grown, grown_short}
 use Rattle.frame_choice.proofs.Taking.{planes_here, passes_within}
@@ -33,7 +34,7 @@ overflow_sub-result c =
     let here = planes_here g f.steps.now planes s.counts.items s.present.items
     s.present_are step id c.requires.id c.requires.can c.requires.known in
     let band = c.band-band.ensures.planes in
-    let below = f.below id c.requires.exists in
+    let below = within_band f id c.requires.exists in
     omega (arith, here, of_row, below, band)
 
 pub overflow_add-result : goal.overflow_add-result
@@ -105,6 +106,6 @@ returns-clause-can_be_written c =
     entry_can (band_planes f.steps.now id.res id.orient) (block_coefs g planes id)
     (block_shape g planes id) step.to _ _ (omega (arith, here, of_row, band))
     (omega (arith, sum, bytes)) (omega (arith, longer)) (omega (arith, short, bytes))
-    (f.below id c.requires.exists)
+    (within_band f id c.requires.exists)
     (passes_within g f.steps.now planes s.counts.items s.present.items
     s.present_are step id c.requires.id c.requires.can c.requires.known)

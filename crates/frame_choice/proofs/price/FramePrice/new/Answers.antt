@@ -6,38 +6,34 @@ use Rattle.frame_packets.specs.Keeps.{Keeps}
 use Rattle.profile_reader.specs.Chosen.{chosen}
 use Rattle.profile_reader.specs.Packets.{BlockBytes}
 use Rattle.frame_choice.specs.Blocks.{block_numbered, most_passes}
-use Rattle.frame_choice.specs.Present.{ArePresent, IsPresent}
-use Rattle.frame_choice.specs.PriceLaws.{planes_of}
+use Rattle.frame_choice.specs.Present.{IsPresent}
+use Rattle.frame_choice.specs.PriceLaws.{planes_in}
 use Rattle.frame_choice.proofs.NoPasses.{none_chosen, none_are_counts, zero_at}
-use Rattle.frame_choice.proofs.WithoutPasses.{into}
+use Rattle.frame_choice.proofs.Taking.{no_block}
 use Rattle.frame_choice.proofs.price.FramePrice.new.Goals as goal
 
 pub invariant_of-result : goal.invariant_of-result
 invariant_of-result c =
     let f = c.args.frame in
     let g = f.geometry.now in
-    let q = c.quantised.result in
-    let is = c.quantised.ensures in
-    let counts = c.in_ok-counts.counts.items in
+    let planes = planes_in f in
     let present = c.in_ok-present.present.items in
-    let zeros : counts ≡ replicate (length (all_blocks g)) 0 =
+    let zeros : c.in_ok-counts.counts.items ≡ replicate (length (all_blocks g)) 0 =
     c.in_ok-counts.ensures.items_if_clones_equal (λ y e. e)
     ∙ ap (λ n. replicate n 0) c.blocks-2.ensures in
     record {
-      most = into (λ h s p. AreCounts (most_passes h p) counts) f q is
-          (subst (λ (xs : List ℕ). AreCounts (most_passes g (planes_of f)) xs) (sym zeros)
-          (none_are_counts g (planes_of f)));
-      present_are = into (λ h s p. ArePresent h s p counts present) f q is (record {
+      most = subst (λ (xs : List ℕ). AreCounts (most_passes g planes) xs) (sym zeros)
+          (none_are_counts g planes);
+      present_are = record {
         long = c.in_ok-present.ensures.long;
         each = λ b below.
-            subst (λ k. IsPresent g f.steps.now (planes_of f) (block_numbered g b) k
-            (get_or present b (record { bytes = 0; planes = 0 })))
+            subst (λ k. IsPresent g f.steps.now planes (block_numbered g b) k
+            (get_or present b no_block))
             (sym (ap (λ (xs : List ℕ). get_or xs b 0) zeros
             ∙ zero_at (length (all_blocks g)) b))
             (c.in_ok-present.ensures.each b below);
-      });
-      kept = into (λ h s p. Keeps h s (chosen h s p counts) c.args.packets) f q is
-          (subst (λ (given : BlockId → BlockBytes). Keeps g f.steps.now given c.args.packets)
-          (sym (ap (λ (xs : List ℕ). chosen g f.steps.now (planes_of f) xs) zeros
-          ∙ none_chosen g f.steps.now (planes_of f) (length (all_blocks g)))) c.requires);
+      };
+      kept = subst (λ (given : BlockId → BlockBytes). Keeps g f.steps.now given c.args.packets)
+          (sym (ap (λ (xs : List ℕ). chosen g f.steps.now planes xs) zeros
+          ∙ none_chosen g f.steps.now planes (length (all_blocks g)))) c.requires.packets;
     }

@@ -3,7 +3,7 @@ use Rattle.frame_choice.specs.Blocks.{block_numbered}
 use Rattle.frame_choice.specs.NumberLaws.{is_block}
 use Rattle.frame_choice.specs.PriceLaws.{planes_in}
 use Rattle.frame_choice.specs.declared.present.PresentBlock.{PresentBlock}
-use Rattle.frame_choice.proofs.HullLemmas.{usable_few}
+use Rattle.frame_choice.proofs.HullLemmas.{usable_few, within_band}
 use Rattle.frame_choice.proofs.Taking.{most_at, no_block, row_is}
 use Rattle.frame_choice.proofs.price.FramePrice.passes.Goals as goal
 
@@ -17,7 +17,7 @@ overflow_mul-planes c =
     let block = is_block g n c.requires in
     let few = usable_few g.levels f.steps.now b.res b.orient f.usable block.band.res
     block.band.orient in
-    let below = f.below b block in
+    let below = within_band f b block in
     let is = (s.present_are.each n c.requires).planes_are in
     let long = s.present_are.long in
     let inside = c.requires in
