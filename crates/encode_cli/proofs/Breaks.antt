@@ -86,7 +86,7 @@ line_broken IsRight visit line k0 k1 s0 s1 right same put some =
     }
 
 -- a refused frame adds no output
-none_twice : (k : Option Kept) →
+pub none_twice : (k : Option Kept) →
     option_map (kept_and []) k ≡ option_map (kept_and []) (option_map (kept_and []) k)
 none_twice None = refl
 none_twice (Some kept) = ap (λ (files : List File). Some

@@ -1,5 +1,7 @@
 pub mod Breaks
 pub mod Checked
+pub mod DemoLimits
+pub mod Demonstrated
 pub mod FreshNames
 pub mod Known
 pub mod Limits

@@ -26,7 +26,7 @@ use Rattle.encode_cli.proofs.Words.{allowed}
 abbrev HasLimits : EncodeOrder → Type 0
 HasLimits order = AreLimitsFor order.profile order.limits
 
-right_short : (order : EncodeOrder) (suffix name : List ℕ) (found : Result Picture FrameFault)
+pub right_short : (order : EncodeOrder) (suffix name : List ℕ) (found : Result Picture FrameFault)
     (visit : Visit) → HasLimits order → RightFor order suffix name found visit →
     IfSome visit.output IsShort
 right_short order suffix name (Ok p) visit own (inl right) =
@@ -39,12 +39,12 @@ right_short order suffix name (Ok p) visit own (inr right) =
 right_short order suffix name (Err fault) visit own right =
     subst (λ (v : Visit). IfSome v.output IsShort) (sym right) tt
 
-both_all : {A : Type 0} (P : A → Type 0) (xs ys : List A) → AllByRecursion P xs →
+pub both_all : {A : Type 0} (P : A → Type 0) (xs ys : List A) → AllByRecursion P xs →
     AllByRecursion P ys → AllByRecursion P (xs ++ ys)
 both_all P [] ys all more = more
 both_all P (x ∷ xs) ys all more = (all.0, both_all P xs ys all.1 more)
 
-one_short : (output : Option File) → IfSome output IsShort →
+pub one_short : (output : Option File) → IfSome output IsShort →
     AllByRecursion IsShort (one_or_none output)
 one_short (Some file) short = (short, tt)
 one_short None short = tt
@@ -78,7 +78,7 @@ point_short order suffix names n (Saying visit k) files own is here short = reco
   unfinished = tt;
 }
 
-held_short : (k : Option Kept) (made : Kept) → IfSome k (λ kept. kept ≡ made) → AreShort made →
+pub held_short : (k : Option Kept) (made : Kept) → IfSome k (λ kept. kept ≡ made) → AreShort made →
     IfSome k AreShort
 held_short None made is short = tt
 held_short (Some kept) made is short = subst AreShort (sym is) short

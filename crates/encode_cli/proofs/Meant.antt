@@ -1,11 +1,10 @@
 -- The codestream of an encoding has a meaning within the limits of its profile.
-use Rattle.std.proofs.Common.{◌≡◌, ℕ, ◌+◌, ◌-◌, ◌<◌, ◌≤◌, true, List, Option, Some, None, IfSome, is_some}
+use Rattle.std.proofs.Common.{◌≡◌, ℕ, ◌+◌, ◌-◌, ◌<◌, ◌≤◌, true, Option, Some, None, IfSome, is_some}
 use Rattle.std.proofs.Common.{length, sum, refl, sym, ◌∙◌, ap, subst, arith}
 use Rattle.budget_duals.specs.Held.{held_of, limits_of, IsWithin}
 use Rattle.budget_duals.specs.declared.held.Held.{Held}
 use Rattle.budget_duals.specs.declared.limits.Limits.{Limits}
 use Rattle.cine_nums.specs.Limits.{limit_of}
-use Rattle.cine_nums.specs.declared.budget.Budget.{Budget}
 use Rattle.cine_nums.specs.declared.budget.Budget.TheVariants.{Frame, Inner, C0, C1, C2}
 use Rattle.cine_nums.specs.declared.profile.Profile.{Profile}
 use Rattle.cine_nums.specs.declared.profile.Profile.TheVariants.{TwoK, FourK}

@@ -220,7 +220,7 @@ all_known R (Some files) names visits listed right =
     subst (λ (fs : List File). AreRight R fs visits)
     (ap (λ n. take n files) count ∙ take-length files) right
 
-status_1 : (some : Bool) (status : ℕ) → status ≡ (if some then 1 else 0) →
+pub status_1 : (some : Bool) (status : ℕ) → status ≡ (if some then 1 else 0) →
     (status ≡ 1) ↔ IsTrue some
 status_1 true status is = (λ e. refl, λ e. is)
 status_1 false status is = (λ e. absurd (omega (arith, is, e)), λ e. absurd cc)

@@ -1,7 +1,7 @@
 -- What follows from the words of a command.
 use Rattle.std.proofs.Common.{◌≡◌, ◌≤◌, ℕ, List, [], ◌∷◌, Option, Some, None, IfSome, is_some}
 use Rattle.std.proofs.Common.{sym, subst, ap, arith}
-use Rattle.std.proofs.Common.{◌∙◌, codes, inl, inr, slice_index, unwrap_or}
+use Rattle.std.proofs.Common.{inl, inr}
 use Rattle.std.specs.Option.{ForSome}
 use Rattle.budget_duals.specs.Held.{limit_in}
 use Rattle.budget_duals.specs.declared.limits.Limits.{Limits}
@@ -12,7 +12,7 @@ use Rattle.cine_nums.specs.declared.profile.Profile.{Profile}
 use Rattle.cine_nums.specs.declared.profile.Profile.TheVariants.{TwoK, FourK}
 use Rattle.cine_ports.specs.Outputs.{Kept, kept_nothing}
 use Rattle.cine_ports.specs.Source.{Source}
-use Rattle.command_words.specs.Check.{AreCheck}
+use Rattle.command_words.specs.Demo.{IsDemo}
 use Rattle.command_words.specs.Encode.{AreEncode}
 use Rattle.command_words.specs.Limits.{InnerBy, LimitBy, LimitsBy}
 use Rattle.frame_encoder.specs.Orders.{AreLimitsFor}
@@ -28,17 +28,11 @@ pub is_command : (words : List (List ℕ)) (order : EncodeOrder) → IsEncode wo
     AreCommand words
 is_command words order is = inl (is.source, is.target, order.profile, order.limits, is.command)
 
--- and so are those of a check
-pub check_is_command : (words : List (List ℕ)) → AreCheck words → AreCommand words
-check_is_command words are = inr are
-
--- no words are a command of both modes
-pub modes_apart : (words : List (List ℕ)) → AreEncode words → AreCheck words → ⊥
-modes_apart words encode check =
-    let same : codes "encode" ≡ codes "check" = ap (λ (o : Option (List ℕ)). unwrap_or o [])
-    (sym encode.4.mode ∙ check.1.mode) in
-    let bad : 101 ≡ 99 = ap (λ (w : List ℕ). slice_index w 0) same in
-    absurd (omega (arith, bad))
+-- and so are those of a demonstration
+pub demo_is_command : (words : List (List ℕ)) (number : ℕ) (order : EncodeOrder) →
+    IsDemo words number order.profile order.limits → AreCommand words
+demo_is_command words number order is =
+    inr (inr (number, order.profile, order.limits, is))
 
 -- a limit by words isn't above the largest
 is_low : (most : ℕ) (word : Option (List ℕ)) (limit : ℕ) → LimitBy most word limit → limit ≤ most
@@ -86,6 +80,12 @@ lowered profile frame inner component limits by =
 pub allowed : (words : List (List ℕ)) (order : EncodeOrder) → IsEncode words order →
     AreLimitsFor order.profile order.limits
 allowed words order is = lowered order.profile _ _ _ order.limits is.command.names.limits_are
+
+-- and so are those of a demonstration
+pub demo_allowed : (words : List (List ℕ)) (number : ℕ) (order : EncodeOrder) →
+    IsDemo words number order.profile order.limits → AreLimitsFor order.profile order.limits
+demo_allowed words number order is =
+    lowered order.profile _ _ _ order.limits is.names.limits_are
 
 -- a run of a command that ended before its source was listed
 pub unread_broken : (words : List (List ℕ)) (suffix : List ℕ) (source : Source) (asked : ℕ)

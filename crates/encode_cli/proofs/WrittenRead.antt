@@ -16,7 +16,7 @@ use Rattle.encode_cli.specs.Visit.{Visit}
 use Rattle.encode_cli.proofs.Meant.{is_meaning}
 
 -- bytes that mean something are read
-readable : (name bytes : List ℕ) (visit : Visit) (decoding : Decoding) →
+pub readable : (name bytes : List ℕ) (visit : Visit) (decoding : Decoding) →
     IsMeaning bytes decoding → RightCheckFor name bytes visit → IsReadable name bytes visit
 readable name bytes visit decoding means (inl right) = right
 readable name bytes visit decoding means (inr other) = absurd (other.meaningless decoding means)

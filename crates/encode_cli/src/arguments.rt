@@ -3,7 +3,7 @@ ghost use Rattle.std.specs.Prelude.{IfNone, IfOk, IfSome};
 ghost use Rattle.command_words.specs.Taken.{texts};
 ghost use Rattle.encode_cli.specs.Arguments.{AreCommand, AreFoldersOf, IsOrder};
 
-use command_words::{check_words, encode_words};
+use command_words::{check_words, demo_words, encode_words};
 use frame_encoder::EncodeOrder;
 use std::alloc::{AllocError, Global};
 
@@ -14,6 +14,9 @@ pub enum Order {
     Encode(EncodeOrder),
     /// To check codestreams.
     Check,
+    /// To encode the frame of a number, and to read it back: with which profile, within which
+    /// limits.
+    Demo(u32, EncodeOrder),
 }
 
 /// The folders that the words name, and the suffix of the files that are read.
@@ -33,15 +36,24 @@ pub fn order_of(alloc: Global, words: &[String]) -> Result<Option<Order>, AllocE
     ensures command { IfOk result (λ found. IfSome found
         (λ order. IsOrder (texts words.now) order)) }
 {
-    match encode_words(alloc, words)? {
-        Some(named) => Ok(Some(Order::Encode(EncodeOrder {
+    if let Some(named) = encode_words(alloc, words)? {
+        return Ok(Some(Order::Encode(EncodeOrder {
             profile: named.profile,
             limits: named.limits,
-        }))),
-        None => match check_words(alloc, words)? {
-            Some(_) => Ok(Some(Order::Check)),
-            None => Ok(None),
-        },
+        })));
+    }
+    if let Some(_) = check_words(alloc, words)? {
+        return Ok(Some(Order::Check));
+    }
+    match demo_words(alloc, words)? {
+        Some(demo) => {
+            let order = EncodeOrder {
+                profile: demo.profile,
+                limits: demo.limits,
+            };
+            Ok(Some(Order::Demo(demo.number, order)))
+        }
+        None => Ok(None),
     }
 }
 
@@ -51,54 +63,59 @@ pub fn places(alloc: Global, words: &[String]) -> Result<Option<FolderWords>, Al
     ensures command { IfOk result (λ found. IfSome found
         (λ folders. AreFoldersOf (texts words.now) folders)) }
 {
-    match encode_words(alloc, words)? {
-        Some(named) => Ok(Some(FolderWords {
+    if let Some(named) = encode_words(alloc, words)? {
+        return Ok(Some(FolderWords {
             source: Some(String::from_str(alloc, named.source)?),
             target: Some(String::from_str(alloc, named.target)?),
             suffix: String::from_str(alloc, ".ppm")?,
+        }));
+    }
+    if let Some(named) = check_words(alloc, words)? {
+        return Ok(Some(FolderWords {
+            source: Some(String::from_str(alloc, named.source)?),
+            target: None,
+            suffix: String::from_str(alloc, ".j2c")?,
+        }));
+    }
+    match demo_words(alloc, words)? {
+        Some(_) => Ok(Some(FolderWords {
+            source: None,
+            target: None,
+            suffix: String::from_str(alloc, "")?,
         })),
-        None => match check_words(alloc, words)? {
-            Some(named) => Ok(Some(FolderWords {
-                source: Some(String::from_str(alloc, named.source)?),
-                target: None,
-                suffix: String::from_str(alloc, ".j2c")?,
-            })),
-            None => Ok(None),
-        },
+        None => Ok(None),
     }
 }
 
 #[cfg(test)]
 mod tests {
     use super::*;
+    use crate::tests::words;
     use std::test::Fail;
 
-    /// The words of a line.
-    fn words(alloc: Global, text: &str) -> Result<Vec<String>, AllocError> {
-        let mut words = Vec::new(alloc);
-        for word in text.split_whitespace() {
-            words.push(String::from_str(alloc, word)?)?;
+    /// Words, and the source, the target and the suffix of their command, `-` for none.
+    const PLACES: &[(&str, &str, &str, &str)] = &[
+        ("encode src dst --profile 2k", "src", "dst", ".ppm"),
+        ("check dst", "dst", "-", ".j2c"),
+        ("demo 1 --profile 2k", "-", "-", ""),
+    ];
+
+    fn shown(folder: &Option<String>) -> &str {
+        match folder {
+            Some(folder) => folder.as_str(),
+            None => "-",
         }
-        Ok(words)
     }
 
     #[test]
-    fn places_of_an_encode_command(rt: HostRuntime) -> Result<(), Fail> {
-        let words = words(rt.alloc(), "encode src dst --profile 2k")?;
-        let found = places(rt.alloc(), words.as_slice())?.ok_or("no command")?;
-        assert_eq!(rt; found.source.ok_or("no source")?.as_str(), "src");
-        assert_eq!(rt; found.target.ok_or("no target")?.as_str(), "dst");
-        assert_eq!(rt; found.suffix.as_str(), ".ppm");
-        Ok(())
-    }
-
-    #[test]
-    fn places_of_a_check_command(rt: HostRuntime) -> Result<(), Fail> {
-        let words = words(rt.alloc(), "check dst")?;
-        let found = places(rt.alloc(), words.as_slice())?.ok_or("no command")?;
-        assert_eq!(rt; found.source.ok_or("no source")?.as_str(), "dst");
-        assert!(rt; found.target.is_none());
-        assert_eq!(rt; found.suffix.as_str(), ".j2c");
+    fn places_of_a_command(rt: HostRuntime) -> Result<(), Fail> {
+        for (text, source, target, suffix) in PLACES {
+            let words = words(rt.alloc(), text)?;
+            let found = places(rt.alloc(), words.as_slice())?.ok_or("no command")?;
+            assert_eq!(rt; shown(&found.source), *source);
+            assert_eq!(rt; shown(&found.target), *target);
+            assert_eq!(rt; found.suffix.as_str(), *suffix);
+        }
         Ok(())
     }
 }

@@ -1,10 +1,9 @@
 // Whole runs of the mode `check`. The places are counted off the bytes by hand, by the standard, and
 // the lines come from programs that share no code with this one.
-use crate::run::run;
-use crate::tests::{CODESTREAM, NEARLY_GREY_PARTS, file, run_over, words};
-use cine_ports::{
-    MemoryFrame, MemoryOutputs, MemoryReport, NullOutputs, SteadyFrames, is_frame_list,
+use crate::tests::{
+    CODESTREAM, Ended, Failing, NEARLY_GREY_PARTS, NONE, file, run_frames, run_over,
 };
+use cine_ports::MemoryOutputs;
 use std::alloc::{AllocError, Global};
 use std::test::Fail;
 
@@ -23,11 +22,9 @@ fn changed(alloc: Global, at: usize, removed: usize, new: &[u8]) -> Result<Vec<u
     Ok(bytes)
 }
 
-/// One file called `d` of these bytes.
-fn only(alloc: Global, bytes: &[u8]) -> Result<Vec<MemoryFrame>, AllocError> {
-    let mut files = Vec::new(alloc);
-    files.push(file(alloc, "d", bytes)?)?;
-    Ok(files)
+/// Checks one file called `d` of these bytes.
+fn check_one(alloc: Global, bytes: &[u8]) -> Result<Ended, Fail> {
+    run_over(alloc, COMMAND, &[("d", bytes)], &NONE)
 }
 
 /// Changes of that codestream (a place, how many bytes are taken out there, and which stand there
@@ -63,7 +60,7 @@ fn a_codestream_is_read_or_its_first_fault_is_reported(rt: HostRuntime) -> Resul
     let alloc = rt.alloc();
     for (at, removed, new, line) in CHANGES {
         let bytes = changed(alloc, *at, *removed, new)?;
-        let ended = run_over(alloc, COMMAND, only(alloc, bytes.as_slice())?, &[], &[])?;
+        let ended = check_one(alloc, bytes.as_slice())?;
         let status = if line.starts_with("refused") { 1 } else { 0 };
         assert!(rt; ended.report.bytes() == line.as_bytes(), "{line}");
         assert_eq!(rt; ended.status, status);
@@ -85,7 +82,7 @@ fn comments_and_packet_lengths_are_passed_over(rt: HostRuntime) -> Result<(), Fa
     wider.extend_from_slice(&[0x23, 0, 3])?;
     wider.extend_from_slice(&[0xFF, 0x58, 0, 9, 0, 5, 1, 1, 1, 1, 1])?;
     wider.extend_from_slice(bytes.get(141..).unwrap_or_default())?;
-    let ended = run_over(alloc, COMMAND, only(alloc, wider.as_slice())?, &[], &[])?;
+    let ended = check_one(alloc, wider.as_slice())?;
     let line = "read d 2k 1x1 levels=5 frame=215 c0=35 c1=20 c2=20 blocks=1 passes=18\n";
     assert!(rt; ended.report.bytes() == line.as_bytes());
     Ok(())
@@ -120,7 +117,7 @@ fn cut_codestreams_are_refused(rt: HostRuntime) -> Result<(), Fail> {
     let alloc = rt.alloc();
     for n in 0..CODESTREAM.len() {
         let cut = CODESTREAM.get(..n).unwrap_or_default();
-        let ended = run_over(alloc, COMMAND, only(alloc, cut)?, &[], &[])?;
+        let ended = check_one(alloc, cut)?;
         let line = line_of_cut(alloc, n)?;
         assert!(rt; ended.report.bytes() == line.as_bytes(), "{n} bytes");
     }
@@ -131,7 +128,7 @@ fn cut_codestreams_are_refused(rt: HostRuntime) -> Result<(), Fail> {
 fn a_file_above_the_limit_isnt_read_to_its_end(rt: HostRuntime) -> Result<(), Fail> {
     let alloc = rt.alloc();
     let long = vec![in alloc; 0; 1_302_090]?;
-    let ended = run_over(alloc, COMMAND, only(alloc, long.as_slice())?, &[], &[])?;
+    let ended = check_one(alloc, long.as_slice())?;
     let line = "refused d 61 LimitExceeded frame 1302084\n";
     assert!(rt; ended.report.bytes() == line.as_bytes());
     Ok(())
@@ -140,10 +137,14 @@ fn a_file_above_the_limit_isnt_read_to_its_end(rt: HostRuntime) -> Result<(), Fa
 #[test]
 fn a_failed_read_ends_a_check(rt: HostRuntime) -> Result<(), Fail> {
     let alloc = rt.alloc();
-    let ended = run_over(alloc, COMMAND, only(alloc, CODESTREAM)?, &[2], &[])?;
+    let failing = Failing {
+        reads: &[2],
+        ..NONE
+    };
+    let ended = run_over(alloc, COMMAND, &[("d", CODESTREAM)], &failing)?;
     assert_eq!(rt; ended.status, 3);
     assert!(rt; ended.report.bytes().is_empty());
-    let nothing = run_over(alloc, COMMAND, Vec::new(alloc), &[], &[])?;
+    let nothing = run_over(alloc, COMMAND, &[], &NONE)?;
     assert_eq!(rt; nothing.status, 0);
     assert!(rt; nothing.report.bytes().is_empty());
     Ok(())
@@ -152,22 +153,10 @@ fn a_failed_read_ends_a_check(rt: HostRuntime) -> Result<(), Fail> {
 #[test]
 fn a_failed_line_ends_a_check(rt: HostRuntime) -> Result<(), Fail> {
     let alloc = rt.alloc();
-    let files = only(alloc, CODESTREAM)?;
-    if !is_frame_list(files.as_slice()) {
-        return Err(Fail::new("the names aren't in order"));
-    }
-    let mut frames = SteadyFrames::new(files);
-    let mut report = MemoryReport::new(alloc, vec![in alloc; 1]?, 10);
-    let words = words(alloc, COMMAND)?;
-    let status = run(
-        alloc,
-        words.as_slice(),
-        &mut frames,
-        &mut NullOutputs::new(),
-        &mut report,
-    );
-    assert_eq!(rt; status, 5);
-    assert!(rt; report.bytes() == b"read d 2k ".as_slice());
+    let failing = Failing { says: &[1], ..NONE };
+    let ended = run_over(alloc, COMMAND, &[("d", CODESTREAM)], &failing)?;
+    assert_eq!(rt; ended.status, 5);
+    assert!(rt; ended.report.bytes() == b"read d 2k ".as_slice());
     Ok(())
 }
 
@@ -178,6 +167,6 @@ pub fn checked(alloc: Global, outputs: &MemoryOutputs) -> Result<String, Fail> {
         let name = output.name().strip_suffix(".j2c").ok_or("another suffix")?;
         files.push(file(alloc, name, output.bytes())?)?;
     }
-    let ended = run_over(alloc, COMMAND, files, &[], &[])?;
+    let ended = run_frames(alloc, COMMAND, files, &NONE)?;
     Ok(String::from_utf8(Vec::from_slice(alloc, ended.report.bytes())?)?)
 }

@@ -36,7 +36,7 @@ fn output_name(alloc: Global, name: &str, suffix: &str) -> Result<String, AllocE
 }
 
 /// The codestream of a frame as the order asks for it, and what its certificate line says.
-fn encode_and_certify(
+pub fn encode_and_certify(
     alloc: Global,
     order: &EncodeOrder,
     name: &str,
@@ -63,7 +63,7 @@ fn encode_and_certify(
 
 /// Writes the codestream of a frame under its name and the suffix, and then reports its certificate
 /// line.
-fn write_frame<O: Outputs, S: Report>(
+pub fn write_frame<O: Outputs, S: Report>(
     alloc: Global,
     suffix: &str,
     name: &str,

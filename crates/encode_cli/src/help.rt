@@ -11,8 +11,12 @@ DCI at 24 frames per second, or checks codestreams, and prints a line for each f
                      where it isn't there. NAME.ppm becomes NAME.j2c
   check SRC          reads each file of the folder SRC whose name ends in .j2c, whoever
                      wrote it, and says what it holds or its first fault. Writes no file
+  demo N             makes a frame from the number N, 0 to 4294967295, encodes it, reads
+                     its codestream, and says of both what encode and check would.
+                     Needs no file and writes none
 
-Options of encode, written '--profile 2k' or '--profile=2k', before or after the folders:
+Options of encode and demo, written '--profile 2k' or '--profile=2k', before or after the
+other words:
 
   --profile 2k|4k        the profile, required. 2k: frames up to 2048x1080,
                          4k: up to 4096x2160
@@ -20,15 +24,17 @@ Options of encode, written '--profile 2k' or '--profile=2k', before or after the
   --inner-bytes B        with 4k: the most bytes of its 2K portion, 1 to 1302083 (the default)
   --component-bytes B    the most bytes of each component, 1 to 1041666 (the default)
 
-Options lower the limits of DCI and never raise them. Words after -- are folders, even
-if they begin with -.
+Options lower the limits of DCI and never raise them. Words after -- are no options,
+even if they begin with -.
 
-Statuses: 0 no file was refused; 1 some file was refused, and its line says why; 2 these
-words are no command; 3 SRC, 4 DST, 5 standard output failed; 6 out of memory.
+Statuses: 0 nothing was refused; 1 a file or the frame of demo was refused, and its line
+says why; 2 these words are no command; 3 SRC, 4 DST, 5 standard output failed; 6 out of
+memory.
 
   cinema encode frames out --profile 2k
   cinema encode frames out --profile 4k --frame-bytes 1200000
   cinema check out
+  cinema demo 1 --profile 2k
 
 The manual page is docs/cinema.1 of the source: man ./docs/cinema.1
 ";

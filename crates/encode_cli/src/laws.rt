@@ -1,5 +1,5 @@
 // What the promises of a run give together with those of the reader of certificate lines, and those
-// of its two modes. A call of a law does nothing and gives the caller its clause.
+// of `encode` with those of `check`. A call of a law does nothing and gives the caller its clause.
 ghost use Rattle.std.specs.Prelude.{ℕ, ◌≡◌, ◌≢◌, List, []};
 ghost use Rattle.cert_text.specs.Lines.{cert_line};
 ghost use Rattle.cert_text.specs.Reading.{IsSaid};

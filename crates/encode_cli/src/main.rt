@@ -1,7 +1,7 @@
 //! The program `cinema`: encodes a folder of 12-bit X'Y'Z' frames (ppm(5), magic P6, maxval 4095)
 //! into JPEG 2000 codestreams of a digital cinema profile, 2K or 4K (ISO/IEC 15444-1), one for each
-//! frame, within the byte limits of the DCI Digital Cinema System Specification; and checks a folder
-//! of codestreams, whoever wrote them.
+//! frame, within the byte limits of the DCI Digital Cinema System Specification; checks a folder of
+//! codestreams, whoever wrote them; and shows both with a frame that it makes from a number.
 //!
 //! `run` promises what is written, what is said and why a run ended. `run_program` makes its
 //! objects and the exit status, and `main` only gives it the words.
@@ -10,6 +10,7 @@
 //! cinema encode frames out --profile 2k
 //! cinema encode frames out --profile 4k --frame-bytes 1200000
 //! cinema check out
+//! cinema demo 1 --profile 2k
 //! ```
 #![tactic(auto)]
 
@@ -17,6 +18,9 @@ mod arguments;
 mod check;
 #[cfg(test)]
 mod check_tests;
+mod demo;
+#[cfg(test)]
+mod demo_tests;
 mod frame;
 mod frames;
 mod help;

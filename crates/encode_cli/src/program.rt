@@ -16,7 +16,9 @@ use system_ports::{FolderFrames, FolderOutputs, StdoutReport};
 /// What standard error says at the end of a run with this status, if anything.
 fn message(status: u8) -> Option<&'static str> {
     match status {
-        2 => Some("usage: cinema encode SRC DST --profile 2k|4k | check SRC"),
+        2 => Some(
+            "usage: cinema encode SRC DST --profile 2k|4k | check SRC | demo N --profile 2k|4k",
+        ),
         3 => Some("source failed"),
         4 => Some("output failed"),
         5 => Some("report failed"),
@@ -54,7 +56,7 @@ fn run_over<F: Frames>(
     }
 }
 
-/// Runs over no frames at all, and returns the status of the run.
+/// Runs over no frames at all, with outputs that keep nothing, and returns the status of the run.
 fn run_over_none(rt: &HostRuntime, words: &[String]) -> Result<u8, AllocError>
     ensures range { IfOk result (λ status. status ≤ 6) }
     ensures command { IfOk result (λ status. AreCommand (texts words.now) → status ≡ 2 → ⊥) }
@@ -77,6 +79,10 @@ fn run_words(rt: &HostRuntime, words: &[String]) -> Result<u8, AllocError>
     let Some(folders) = places(alloc, words)? else {
         return run_over_none(rt, words);
     };
+    // Where standard output is closed, the next opened file would take its place.
+    if fs::metadata(rt, "/dev/stdout").is_err() {
+        return Ok(5);
+    }
     let FolderWords {
         source,
         target,
@@ -85,10 +91,6 @@ fn run_words(rt: &HostRuntime, words: &[String]) -> Result<u8, AllocError>
     let Some(folder) = source else {
         return run_over_none(rt, words);
     };
-    // Where standard output is closed, the next opened file would take its place.
-    if fs::metadata(rt, "/dev/stdout").is_err() {
-        return Ok(5);
-    }
     let mut frames = FolderFrames::new(rt.clone()?, folder, suffix);
     run_over(rt, words, &mut frames, target)
 }
@@ -163,6 +165,14 @@ mod tests {
         ("check test-status/dst", "ExitCode(unix_exit_status(0))"),
         ("check test-status/cut", "ExitCode(unix_exit_status(1))"),
         ("check test-status/none", "ExitCode(unix_exit_status(3))"),
+        (
+            "demo 0 --profile 2k --frame-bytes 349",
+            "ExitCode(unix_exit_status(1))",
+        ),
+        (
+            "demo 4294967296 --profile 2k",
+            "ExitCode(unix_exit_status(2))",
+        ),
     ];
 
     #[test]

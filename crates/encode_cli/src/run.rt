@@ -1,18 +1,22 @@
 // The whole run.
-ghost use Rattle.std.specs.Prelude.{◌≡◌, ◌≤◌, ◌⊎◌, ◌==◌, if◌then◌else◌, [], false, IfSome};
+ghost use Rattle.std.specs.Prelude.{ℕ, ◌≡◌, ◌≤◌, ◌⊎◌, ◌==◌, if◌then◌else◌, [], false, IfSome};
 ghost use Rattle.std.specs.Option.{ForSome};
 ghost use Rattle.cine_ports.specs.Outputs.{kept_nothing};
+ghost use Rattle.demo_frames.specs.Demo.{demo_picture};
 ghost use Rattle.frame_encoder.specs.declared.order.EncodeOrder.{EncodeOrder};
 ghost use Rattle.command_words.specs.Check.{AreCheck};
+ghost use Rattle.command_words.specs.Demo.{AreDemo, IsDemo};
 ghost use Rattle.command_words.specs.Encode.{AreEncode};
 ghost use Rattle.command_words.specs.Taken.{texts};
 ghost use Rattle.encode_cli.specs.Arguments.{codestream_suffix, AreCommand, IsEncode};
 ghost use Rattle.encode_cli.specs.Right.{Right, RightByName};
 ghost use Rattle.encode_cli.specs.RightCheck.{RightCheck, RightCheckByName};
+ghost use Rattle.encode_cli.specs.RightDemo.{DemoBrokeOff, LeavesDemo};
 ghost use Rattle.encode_cli.specs.Run.{Leaves, AreShort, RunBrokeOff};
 
 use crate::arguments::{Order, order_of};
 use crate::check::check_files;
+use crate::demo::demonstrate;
 use crate::frames::visit_frames;
 use cine_ports::{Frames, Outputs, Report};
 use std::alloc::{AllocError, Global};
@@ -24,7 +28,8 @@ fn visited_status(some_refused: bool) -> u8
     if some_refused { 1 } else { 0 }
 }
 
-/// Encodes each frame of a source, or checks each codestream.
+/// Encodes each frame of a source, checks each codestream, or encodes a made frame and reads it
+/// back.
 ///
 /// In the mode `encode` a frame's codestream goes to the outputs under the frame's name and `.j2c`,
 /// and then its certificate line to the report. A frame that is refused has a line alone: its file
@@ -54,11 +59,17 @@ fn visited_status(some_refused: bool) -> u8
 /// of them and what they hold; else it has their first fault in reading order, with its place
 /// (`fault` of `IsUnreadable`). No call of the outputs is made.
 ///
+/// In the mode `demo` there is one frame, made from the number of the words alone. `demonstrated`
+/// promises for it what `visited` does for an accepted or refused frame, with the name `demo`; and
+/// where it is written, what `checked` does for a file that can be read, of the output's own bytes
+/// (`AreShown` in specs/RightDemo.antt). Reading back is never refused. No call of the source is
+/// made.
+///
 /// Returns the status: 0 where all files were visited and none was refused, 1 where all were and
 /// some was, 2 where the words are no command, 3, 4 and 5 where a call of the source, the
 /// outputs and the report failed, and 6 where memory ran out. A failed call ends the run at once,
 /// and so does out of memory; an object of which a call has failed isn't called again.
-#[tactic(auto, using(crate::proofs::Progress::all_visited, crate::proofs::Progress::run_broken, crate::proofs::Limits::visited_short, crate::proofs::Limits::broken_short, crate::proofs::Limits::none_short, crate::proofs::Words::is_command, crate::proofs::Words::allowed, crate::proofs::Stops::source_status, crate::proofs::Stops::outputs_status, crate::proofs::Stops::report_status))]
+#[tactic(auto, using(crate::proofs::Progress::all_visited, crate::proofs::Progress::run_broken, crate::proofs::Limits::visited_short, crate::proofs::Limits::broken_short, crate::proofs::Limits::none_short, crate::proofs::Demonstrated::demonstrated, crate::proofs::Demonstrated::demo_broke_off, crate::proofs::Words::is_command, crate::proofs::Words::demo_is_command, crate::proofs::Words::allowed, crate::proofs::Stops::source_status, crate::proofs::Stops::outputs_status, crate::proofs::Stops::report_status))]
 pub fn run<F: Frames, O: Outputs, S: Report>(
     alloc: Global,
     words: &[String],
@@ -108,6 +119,20 @@ pub fn run<F: Frames, O: Outputs, S: Report>(
         (F.reading frames.new).asked (O.kept outputs.new) (S.said report.new) }
     ensures check_writes_nothing { AreCheck (texts words.now) → outputs.new ≡ outputs.old }
 
+    // The same of `demo`, which leaves the source alone. Its output is finished before a byte of a
+    // line is reported.
+    ensures demonstrated { AreDemo (texts words.now) → result ≤ 1 →
+        (number : ℕ) × (order : EncodeOrder)
+        × IsDemo (texts words.now) number order.profile order.limits
+        × LeavesDemo order (demo_picture number order.profile) (O.kept outputs.new)
+        (S.said report.new) result }
+    ensures demo_stopped { AreDemo (texts words.now) → 3 ≤ result →
+        (number : ℕ) × (order : EncodeOrder)
+        × IsDemo (texts words.now) number order.profile order.limits
+        × DemoBrokeOff order (demo_picture number order.profile) (O.kept outputs.new)
+        (S.said report.new) }
+    ensures demo_reads_nothing { AreDemo (texts words.now) → frames.new ≡ frames.old }
+
     // No run changes the source's files.
     ensures files { (F.source frames.new).files ≡ (F.source frames.old).files }
 
@@ -138,5 +163,11 @@ pub fn run<F: Frames, O: Outputs, S: Report>(
             Ok(some_refused) => visited_status(some_refused),
             Err(stop) => stop.status(),
         },
+        Order::Demo(number, order) => {
+            match demonstrate(alloc, number, &order, outputs, report) {
+                Ok(is_refused) => visited_status(is_refused),
+                Err(stop) => stop.status(),
+            }
+        }
     }
 }

@@ -13,6 +13,9 @@ use system_ports::{FolderFrames, FolderOutputs};
 /// A grey frame of one pixel.
 const GREY: &[u8] = b"P6\n1 1\n4095\n\x08\x00\x08\x00\x08\x00";
 
+/// The same with a comment in its header.
+const COMMENTED: &[u8] = b"P6\n# 12 bit\n1 1\n4095\n\x08\x00\x08\x00\x08\x00";
+
 /// The same with 16 bits a sample.
 const DEEP: &[u8] = b"P6\n1 1\n65535\n\x08\x00\x08\x00\x08\x00";
 
@@ -54,8 +57,8 @@ pub const CODESTREAM: &[u8] = &[
 const LINE: &str =
     "ok a 2k 1x1 frame=191/1302083/0 c0=20/1041666/0 c1=20/1041666/0 c2=20/1041666/0 passes=0 empty=0 distortion=0 gap=0\n";
 
-/// The lines of a grey frame, a frame of 16 bits a sample, a grey frame, and one with a sample too
-/// large.
+/// The lines of a grey frame, a frame of 16 bits a sample, a grey frame with a comment, and one with a
+/// sample too large.
 const LINES: &str = "\
 ok a 2k 1x1 frame=191/1302083/0 c0=20/1041666/0 c1=20/1041666/0 c2=20/1041666/0 passes=0 empty=0 distortion=0 gap=0\n\
 refused e 4 WrongMaxval\n\
@@ -115,20 +118,34 @@ pub struct Ended {
     pub report: MemoryReport,
 }
 
-/// Runs over frames in memory, of whose calls those of these numbers fail.
-pub fn run_over(
+/// The numbers of the calls that fail: of the source, of the outputs, and of the report.
+#[derive(Clone, Copy)]
+pub struct Failing<'a> {
+    pub reads: &'a [u32],
+    pub writes: &'a [u32],
+    pub says: &'a [u32],
+}
+
+/// No call fails.
+pub const NONE: Failing<'static> = Failing {
+    reads: &[],
+    writes: &[],
+    says: &[],
+};
+
+/// Runs over frames in memory.
+pub fn run_frames(
     alloc: Global,
     text: &str,
     files: Vec<MemoryFrame>,
-    failing_reads: &[u32],
-    failing_writes: &[u32],
+    failing: &Failing<'_>,
 ) -> Result<Ended, Fail> {
     if !is_frame_list(files.as_slice()) {
         return Err(Fail::new("the names aren't in order"));
     }
-    let mut frames = MemoryFrames::new(files, Vec::from_slice(alloc, failing_reads)?, 7);
-    let mut outputs = MemoryOutputs::new(alloc, Vec::from_slice(alloc, failing_writes)?, 100);
-    let mut report = MemoryReport::new(alloc, Vec::new(alloc), 10);
+    let mut frames = MemoryFrames::new(files, Vec::from_slice(alloc, failing.reads)?, 7);
+    let mut outputs = MemoryOutputs::new(alloc, Vec::from_slice(alloc, failing.writes)?, 100);
+    let mut report = MemoryReport::new(alloc, Vec::from_slice(alloc, failing.says)?, 10);
     let words = words(alloc, text)?;
     let status = run(
         alloc,
@@ -144,6 +161,20 @@ pub fn run_over(
     })
 }
 
+/// Runs over files in memory, by their names and bytes.
+pub fn run_over(
+    alloc: Global,
+    text: &str,
+    files: &[(&str, &[u8])],
+    failing: &Failing<'_>,
+) -> Result<Ended, Fail> {
+    let mut frames = Vec::new(alloc);
+    for (name, bytes) in files {
+        frames.push(file(alloc, name, bytes)?)?;
+    }
+    run_frames(alloc, text, frames, failing)
+}
+
 /// Whether a file is there, with this name and these bytes.
 fn is_file(file: Option<&MemoryFrame>, name: &str, bytes: &[u8]) -> bool {
     match file {
@@ -155,12 +186,8 @@ fn is_file(file: Option<&MemoryFrame>, name: &str, bytes: &[u8]) -> bool {
 #[test]
 fn each_frame_has_its_output_and_its_line(rt: HostRuntime) -> Result<(), Fail> {
     let alloc = rt.alloc();
-    let mut files = Vec::new(alloc);
-    files.push(file(alloc, "a", GREY)?)?;
-    files.push(file(alloc, "e", DEEP)?)?;
-    files.push(file(alloc, "f~", GREY)?)?;
-    files.push(file(alloc, "g", LARGE)?)?;
-    let ended = run_over(alloc, COMMAND, files, &[], &[])?;
+    let files = [("a", GREY), ("e", DEEP), ("f~", COMMENTED), ("g", LARGE)];
+    let ended = run_over(alloc, COMMAND, &files, &NONE)?;
     assert_eq!(rt; ended.status, 1);
     assert_eq!(rt; ended.outputs.files().len(), 2);
     assert!(rt; is_file(ended.outputs.files().get(0), "a.j2c", CODESTREAM));
@@ -172,11 +199,8 @@ fn each_frame_has_its_output_and_its_line(rt: HostRuntime) -> Result<(), Fail> {
 #[test]
 fn a_line_has_the_passes_and_the_distortions(rt: HostRuntime) -> Result<(), Fail> {
     let alloc = rt.alloc();
-    let mut files = Vec::new(alloc);
-    files.push(file(alloc, "b", WHITE)?)?;
-    files.push(file(alloc, "c", BLACK)?)?;
-    files.push(file(alloc, "d", NEARLY_GREY)?)?;
-    let ended = run_over(alloc, COMMAND, files, &[], &[])?;
+    let files = [("b", WHITE), ("c", BLACK), ("d", NEARLY_GREY)];
+    let ended = run_over(alloc, COMMAND, &files, &NONE)?;
     assert_eq!(rt; ended.status, 0);
     assert!(rt; ended.report.bytes() == PASSES.as_bytes());
     let mut bytes = Vec::from_slice(alloc, &CODESTREAM[..108])?;
@@ -221,12 +245,10 @@ fn digest(bytes: &[u8]) -> u32 {
 #[test]
 fn a_busy_frame_has_multipliers_and_refused_steps(rt: HostRuntime) -> Result<(), Fail> {
     let alloc = rt.alloc();
-    let mut files = Vec::new(alloc);
     let coloured = noise(alloc, b"P6\n600 600\n4095\n", 600 * 600, false)?;
-    files.push(file(alloc, "h", coloured.as_slice())?)?;
     let grey = noise(alloc, b"P6\n900 900\n4095\n", 900 * 900, true)?;
-    files.push(file(alloc, "i", grey.as_slice())?)?;
-    let ended = run_over(alloc, COMMAND, files, &[], &[])?;
+    let files = [("h", coloured.as_slice()), ("i", grey.as_slice())];
+    let ended = run_over(alloc, COMMAND, &files, &NONE)?;
     assert_eq!(rt; ended.status, 0);
     assert!(rt; ended.report.bytes() == BUSY.as_bytes());
     let first = ended.outputs.files().get(0).ok_or("no output of h")?;
@@ -270,6 +292,12 @@ ok a 2k 1x1 frame=191/195/0 c0=20/1041666/0 c1=20/1041666/0 c2=20/1041666/0 pass
 ok d 2k 1x1 frame=195/195/0 c0=24/1041666/0 c1=20/1041666/0 c2=20/1041666/0 passes=18 empty=16641 distortion=0 gap=0\n",
     ),
     (
+        "2k --frame-bytes 191",
+        "\
+ok a 2k 1x1 frame=191/191/0 c0=20/1041666/0 c1=20/1041666/0 c2=20/1041666/0 passes=0 empty=0 distortion=0 gap=0\n\
+ok d 2k 1x1 frame=191/191/71472550772736 c0=20/1041666/0 c1=20/1041666/0 c2=20/1041666/0 passes=0 empty=16641 distortion=16641 gap=0 step=frame:0:0:18:1:3:16641:66564\n",
+    ),
+    (
         "2k --frame-bytes 190",
         "refused a 10 LimitTooSmall frame 191\nrefused d 10 LimitTooSmall frame 191\n",
     ),
@@ -291,11 +319,9 @@ ok d 2k 1x1 frame=195/195/0 c0=24/1041666/0 c1=20/1041666/0 c2=20/1041666/0 pass
 fn options_lower_the_limits(rt: HostRuntime) -> Result<(), Fail> {
     let alloc = rt.alloc();
     for (options, lines) in LOWERED {
-        let mut files = Vec::new(alloc);
-        files.push(file(alloc, "a", GREY)?)?;
-        files.push(file(alloc, "d", NEARLY_GREY)?)?;
         let command = format!(in alloc; "encode src dst --profile {options}")?;
-        let ended = run_over(alloc, command.as_str(), files, &[], &[])?;
+        let files = [("a", GREY), ("d", NEARLY_GREY)];
+        let ended = run_over(alloc, command.as_str(), &files, &NONE)?;
         let refused = lines.starts_with("refused");
         assert_eq!(rt; ended.status, if refused { 1 } else { 0 });
         assert_eq!(rt; ended.outputs.files().len(), if refused { 0 } else { 2 });
@@ -307,10 +333,11 @@ fn options_lower_the_limits(rt: HostRuntime) -> Result<(), Fail> {
 #[test]
 fn a_fault_of_the_outputs_ends_a_run(rt: HostRuntime) -> Result<(), Fail> {
     let alloc = rt.alloc();
-    let mut files = Vec::new(alloc);
-    files.push(file(alloc, "a", GREY)?)?;
-    files.push(file(alloc, "d", GREY)?)?;
-    let ended = run_over(alloc, COMMAND, files, &[], &[6])?;
+    let failing = Failing {
+        writes: &[6],
+        ..NONE
+    };
+    let ended = run_over(alloc, COMMAND, &[("a", GREY), ("d", GREY)], &failing)?;
     assert_eq!(rt; ended.status, 4);
     assert_eq!(rt; ended.outputs.files().len(), 1);
     assert!(rt; is_file(ended.outputs.files().get(0), "a.j2c", CODESTREAM));
@@ -322,12 +349,14 @@ fn a_fault_of_the_outputs_ends_a_run(rt: HostRuntime) -> Result<(), Fail> {
 #[test]
 fn runs_without_a_line(rt: HostRuntime) -> Result<(), Fail> {
     let alloc = rt.alloc();
-    let nothing = run_over(alloc, COMMAND, Vec::new(alloc), &[], &[])?;
+    let nothing = run_over(alloc, COMMAND, &[], &NONE)?;
     assert_eq!(rt; nothing.status, 0);
     assert!(rt; nothing.report.bytes().is_empty());
-    let mut files = Vec::new(alloc);
-    files.push(file(alloc, "a", GREY)?)?;
-    let unread = run_over(alloc, COMMAND, files, &[2], &[])?;
+    let failing = Failing {
+        reads: &[2],
+        ..NONE
+    };
+    let unread = run_over(alloc, COMMAND, &[("a", GREY)], &failing)?;
     assert_eq!(rt; unread.status, 3);
     assert!(rt; unread.report.bytes().is_empty());
     Ok(())
@@ -347,7 +376,7 @@ fn other_words_are_no_command(rt: HostRuntime) -> Result<(), Fail> {
         "check",
         "check src dst --profile 2k",
     ] {
-        let ended = run_over(alloc, text, Vec::new(alloc), &[], &[])?;
+        let ended = run_over(alloc, text, &[], &NONE)?;
         assert_eq!(rt; ended.status, 2);
         let words = words(alloc, text)?;
         assert!(rt; places(alloc, words.as_slice())?.is_none());
@@ -393,62 +422,67 @@ fn grey(alloc: Global, header: &[u8], pixels: u32) -> Result<Vec<u8>, AllocError
     Ok(bytes)
 }
 
-#[test]
-fn folder_to_folder(rt: HostRuntime) -> Result<(), Fail> {
-    let alloc = rt.alloc();
-    let _ = fs::remove_dir_all(&rt, "test-run");
-    fs::create_dir_all(&rt, "test-run/src")?;
-    fs::write(&rt, "test-run/src/a.ppm", GREY)?;
-    let large = grey(alloc, b"P6\n2048 1080\n4095\n", 2048 * 1080)?;
-    fs::write(&rt, "test-run/src/large.ppm", large.as_slice())?;
-    let odd = grey(alloc, b"P6\n129 257\n4095\n", 129 * 257)?;
-    fs::write(&rt, "test-run/src/odd.ppm", odd.as_slice())?;
-    let (status, report) = run_between(&rt, COMMAND, "test-run/src", "test-run/dst")?;
-    assert_eq!(rt; status, 0);
-    assert!(rt; report.bytes() == SIZES.as_bytes());
-    let written = fs::read(&rt, "test-run/dst/a.j2c")?;
-    assert!(rt; written.as_slice() == CODESTREAM);
-    for (path, length, sides) in [
-        ("test-run/dst/large.j2c", 350, [0, 0, 8, 0, 0, 0, 4, 0x38]),
-        ("test-run/dst/odd.j2c", 194, [0, 0, 0, 129, 0, 0, 1, 1]),
-    ] {
-        let written = fs::read(&rt, path)?;
-        assert_eq!(rt; written.len(), length);
-        assert!(rt; written.get(8..16) == Some(sides.as_slice()));
-        assert!(rt; written.ends_with(&[0xFF, 0xD9]));
-    }
-    fs::remove_dir_all(&rt, "test-run")?;
-    Ok(())
-}
-
 /// The lines of a grey frame of one pixel and of the largest of the 4K profile.
 const SIZES_OF_4K: &str = "\
 ok a 4k 1x1 frame=276/1302083/0 inner=231/1302083/0 c0=20/1041666/0 c1=20/1041666/0 c2=20/1041666/0 passes=0 empty=0 distortion=0 gap=0\n\
 ok large 4k 4096x2160 frame=864/1302083/0 inner=390/1302083/0 c0=73/1041666/0 c1=73/1041666/0 c2=73/1041666/0 passes=0 empty=0 distortion=0 gap=0\n";
 
+/// A profile; grey frames, by their names, headers and numbers of pixels; their lines; and of each
+/// output the length, and from a place on bytes of SIZ (Rsiz, Xsiz, Ysiz) or all of it.
+#[rattlefmt::skip]
+const FOLDERS: &[(&str, &[(&str, &[u8], u32)], &str, &[(&str, usize, usize, &[u8])])] = &[
+    (
+        "2k",
+        &[
+            ("a", b"P6\n1 1\n4095\n", 1),
+            ("large", b"P6\n2048 1080\n4095\n", 2048 * 1080),
+            ("odd", b"P6\n129 257\n4095\n", 129 * 257),
+        ],
+        SIZES,
+        &[
+            ("a", 191, 0, CODESTREAM),
+            ("large", 350, 6, &[0, 3, 0, 0, 8, 0, 0, 0, 4, 0x38]),
+            ("odd", 194, 6, &[0, 3, 0, 0, 0, 129, 0, 0, 1, 1]),
+        ],
+    ),
+    (
+        "4k",
+        &[
+            ("a", b"P6\n1 1\n4095\n", 1),
+            ("large", b"P6\n4096 2160\n4095\n", 4096 * 2160),
+        ],
+        SIZES_OF_4K,
+        &[
+            ("a", 276, 6, &[0, 4, 0, 0, 0, 1, 0, 0, 0, 1]),
+            ("large", 864, 6, &[0, 4, 0, 0, 0x10, 0, 0, 0, 8, 0x70]),
+        ],
+    ),
+];
+
 #[test]
-fn folder_to_folder_in_4k(rt: HostRuntime) -> Result<(), Fail> {
+fn folder_to_folder(rt: HostRuntime) -> Result<(), Fail> {
     let alloc = rt.alloc();
-    let _ = fs::remove_dir_all(&rt, "test-4k");
-    fs::create_dir_all(&rt, "test-4k/src")?;
-    fs::write(&rt, "test-4k/src/a.ppm", GREY)?;
-    let large = grey(alloc, b"P6\n4096 2160\n4095\n", 4096 * 2160)?;
-    fs::write(&rt, "test-4k/src/large.ppm", large.as_slice())?;
-    let command = "encode src dst --profile 4k";
-    let (status, report) = run_between(&rt, command, "test-4k/src", "test-4k/dst")?;
-    assert_eq!(rt; status, 0);
-    assert!(rt; report.bytes() == SIZES_OF_4K.as_bytes());
-    for (path, length, sides) in [
-        ("test-4k/dst/a.j2c", 276, [0, 0, 0, 1, 0, 0, 0, 1]),
-        ("test-4k/dst/large.j2c", 864, [0, 0, 0x10, 0, 0, 0, 8, 0x70]),
-    ] {
-        let written = fs::read(&rt, path)?;
-        assert_eq!(rt; written.len(), length);
-        assert!(rt; written.get(6..8) == Some([0, 4].as_slice()));
-        assert!(rt; written.get(8..16) == Some(sides.as_slice()));
-        assert!(rt; written.ends_with(&[0xFF, 0xD9]));
+    for (profile, frames, lines, outputs) in FOLDERS {
+        let _ = fs::remove_dir_all(&rt, "test-run");
+        fs::create_dir_all(&rt, "test-run/src")?;
+        for (name, header, pixels) in frames.iter() {
+            let path = format!(in alloc; "test-run/src/{name}.ppm")?;
+            let bytes = grey(alloc, header, *pixels)?;
+            fs::write(&rt, path.as_str(), bytes.as_slice())?;
+        }
+        let command = format!(in alloc; "encode src dst --profile {profile}")?;
+        let (status, report) = run_between(&rt, command.as_str(), "test-run/src", "test-run/dst")?;
+        assert_eq!(rt; status, 0);
+        assert!(rt; report.bytes() == lines.as_bytes());
+        for (name, length, place, bytes) in outputs.iter() {
+            let path = format!(in alloc; "test-run/dst/{name}.j2c")?;
+            let written = fs::read(&rt, path.as_str())?;
+            assert_eq!(rt; written.len(), *length);
+            assert!(rt; written.get(*place..).unwrap_or_default().starts_with(bytes));
+            assert!(rt; written.ends_with(&[0xFF, 0xD9]));
+        }
+        fs::remove_dir_all(&rt, "test-run")?;
     }
-    fs::remove_dir_all(&rt, "test-4k")?;
     Ok(())
 }
 
