@@ -10,7 +10,8 @@ ghost use Rattle.demand_blocks.specs.BegunLaws.{first_prop, kept_prop};
 ghost use Rattle.demand_blocks.specs.Views.{coefs_in, shape_in};
 
 use crate::bytes::keep;
-use crate::coding::{code_up_to, left_where, prepare};
+use crate::coding::{Reach, code_up_to, left_where, prepare};
+use crate::goal::{is_reached, least_cost};
 use cine_nums::Orient;
 use codeblock_views::{BlockView, Coefs};
 use ebcot_passes::{BlockCoder, CodedPass, LeftBlock};
@@ -110,19 +111,39 @@ impl<'a> DemandBlock<'a> {
         self.passes.len() == most_passes(self.planes)
     }
 
-    /// Codes the next pass, by way of a buffer of 77,312 bytes at least. It refuses nothing: where
-    /// memory is missing, nothing is kept to go on with.
-    pub fn code_more(&mut self, buffer: &mut [u8])
+    /// Whether no further pass can lower the distortion by as much as its bytes cost at this price.
+    pub fn is_coded_to(&self, price: u64) -> bool {
+        match self.passes.last() {
+            Some(last) => {
+                is_reached(
+                    least_cost(self.start, self.passes.as_slice(), price),
+                    last,
+                    price,
+                )
+            }
+            None => false,
+        }
+    }
+
+    /// Codes more passes, one at least, and on until no further one can lower the distortion by as
+    /// much as its bytes cost at this price, by way of a buffer of 77,312 bytes at least. It refuses
+    /// nothing: where memory is missing, nothing is kept to go on with.
+    pub fn code_more(&mut self, price: u64, buffer: &mut [u8])
         requires more { length self.old.passes.items < passes_of self.old.planes }
         requires room { 77312 ≤ length buffer.old }
         requires few { length buffer.old < 2 ^ 31 }
         ensures view { self.new.view ≡ self.old.view }
         ensures orient { self.new.orient ≡ self.old.orient }
         ensures planes { self.new.planes ≡ self.old.planes }
-        ensures one_more { length self.new.passes.items ≡ length self.old.passes.items + 1 }
+        ensures more { length self.old.passes.items < length self.new.passes.items }
         ensures length { length buffer.new ≡ length buffer.old }
     {
-        let count = self.coded() + 1;
+        let reach = Reach {
+            least: self.coded() + 1,
+            most: most_passes(self.planes) as u8,
+            price,
+            start: self.start,
+        };
         prepare(&self.left, self.bytes.as_slice(), &mut self.passes, buffer);
         let left = code_up_to(
             &self.view,
@@ -130,7 +151,7 @@ impl<'a> DemandBlock<'a> {
             self.planes,
             &self.left,
             &mut self.passes,
-            count,
+            reach,
             buffer,
         );
         let kept = keep(&mut self.bytes, &buffer[..left.kept() as usize]);

@@ -5,6 +5,7 @@ ghost use Rattle.demand_blocks.specs.Views.{coefs_in, shape_in};
 ghost use Rattle.demand_blocks.specs.declared.block.DemandBlock.{DemandBlock};
 
 use crate::DemandBlock;
+use crate::goal::goal;
 use arrayvec::ArrayVec;
 use offers_on_demand::Passes;
 use rd_hulls::Point;
@@ -19,18 +20,29 @@ const BLOCK_BYTES: usize = 77_312;
 pub struct DemandBlocks<'a> {
     pub(crate) blocks: Vec<DemandBlock<'a>>,
     pub(crate) buffer: Vec<u8>,
+    pub(crate) price: u64,
     ghost few: { length blocks.items < 2 ^ 32 },
     ghost room: { length buffer.items ≡ 77312 },
 }
 
 impl<'a> DemandBlocks<'a> {
-    /// So many blocks, in their order. The only refusal is out of memory.
-    pub fn new(alloc: Global, blocks: Vec<DemandBlock<'a>>) -> Result<DemandBlocks<'a>, AllocError>
+    /// So many blocks, in their order, of which about so many bytes will be wanted. The only refusal
+    /// is out of memory.
+    pub fn new(
+        alloc: Global,
+        blocks: Vec<DemandBlock<'a>>,
+        room: u32,
+    ) -> Result<DemandBlocks<'a>, AllocError>
         requires few { length blocks.items < 2 ^ 32 }
         ensures { IfOk result (λ r. r.blocks.items ≡ blocks.entry.items) }
     {
-        let buffer = vec![in alloc; 0; BLOCK_BYTES]?;
-        Ok(DemandBlocks { blocks, buffer })
+        let mut buffer = vec![in alloc; 0; BLOCK_BYTES]?;
+        let price = goal(blocks.as_slice(), room, buffer.as_mut_slice());
+        Ok(DemandBlocks {
+            blocks,
+            buffer,
+            price,
+        })
     }
 
     /// The block with this number.
@@ -109,6 +121,10 @@ impl Passes for DemandBlocks<'_> {
     }
 
     fn code_more(&mut self, block: u32) {
-        self.blocks[block as usize].code_more(self.buffer.as_mut_slice());
+        let asked = &mut self.blocks[block as usize];
+        if asked.is_coded_to(self.price) {
+            self.price = self.price.saturating_sub(self.price / 4 + 1);
+        }
+        asked.code_more(self.price, self.buffer.as_mut_slice());
     }
 }

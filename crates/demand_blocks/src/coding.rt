@@ -11,6 +11,7 @@ ghost use Rattle.demand_blocks.specs.Begun.{CanGoOn, GoesOnFrom, IsKept};
 ghost use Rattle.demand_blocks.specs.Views.{coefs_in, shape_in};
 
 use crate::bytes::copy_to;
+use crate::goal::{cost, is_reached, least_cost};
 use cine_nums::Orient;
 use codeblock_views::BlockView;
 use ebcot_passes::{BlockCoder, CodedPass, LeftBlock};
@@ -60,36 +61,68 @@ pub(crate) fn prepare(
     }
 }
 
-// Codes so many passes of a block in all, to a buffer that has the bytes of those before.
+/// How far a block is coded.
+#[derive(Clone, Copy)]
+pub(crate) struct Reach {
+    /// The least number of passes in all, and the most.
+    pub(crate) least: u8,
+    pub(crate) most: u8,
+    /// The price of a byte at which further passes are to be worth nothing.
+    pub(crate) price: u64,
+    /// The distortion of the block without a pass.
+    pub(crate) start: u64,
+}
+
+impl Reach {
+    // Whether so many passes are enough, of which this one is the last and these are the least
+    // costs.
+    fn is_met(&self, passes: u8, least: u128, last: &CodedPass) -> bool
+        ensures { IsTrue result → self.now.least ≤ passes }
+    {
+        passes >= self.least && is_reached(least, last, self.price)
+    }
+}
+
+// Codes passes of a block, as far as is asked, to a buffer that has the bytes of those before.
 pub(crate) fn code_up_to(
     view: &BlockView<'_>,
     orient: Orient,
     planes: u8,
     left: &Option<Box<LeftBlock>>,
     passes: &mut Vec<CodedPass>,
-    count: u8,
+    reach: Reach,
     buffer: &mut [u8],
 ) -> LeftBlock
     requires planes { planes ≡ block_planes (view_cells view.now) }
-    requires some { 1 ≤ count }
-    requires within { count ≤ passes_of planes }
-    requires more { length passes.old.items ≤ count }
-    requires capacity { count ≤ vec_capacity passes.old }
+    requires some { 1 ≤ reach.least }
+    requires most { reach.least ≤ reach.most }
+    requires within { reach.most ≤ passes_of planes }
+    requires more { length passes.old.items ≤ reach.least }
+    requires capacity { reach.most ≤ vec_capacity passes.old }
     requires room { 77312 ≤ length buffer.old }
     requires few { length buffer.old < 2 ^ 31 }
     requires from { GoesOnFrom (coefs_in view.now) (shape_in view.now orient planes)
         passes.old.items left.now buffer.old }
     ensures can { CanGoOn (coefs_in view.now) (shape_in view.now orient planes)
         passes.new.items result buffer.new }
-    ensures count { length passes.new.items ≡ count }
+    ensures least { reach.least ≤ length passes.new.items }
+    ensures most { length passes.new.items ≤ reach.most }
     ensures capacity { vec_capacity passes.new ≡ vec_capacity passes.old }
     ensures few { result.mark.count ≤ 68023 }
     ensures length { length buffer.new ≡ length buffer.old }
 {
     let begun = passes.len() as u8;
     let mut coder = resume(view, orient, planes, left);
-    for _k in begun..count {
-        passes.push_reserved(coder.code_pass(buffer));
+    let mut least = least_cost(reach.start, passes.as_slice(), reach.price);
+    let mut done = false;
+    for k in begun..reach.most {
+        if done {
+            break;
+        }
+        let pass = coder.code_pass(buffer);
+        least = least.min(cost(&pass, reach.price));
+        passes.push_reserved(pass);
+        done = reach.is_met(k + 1, least, &pass);
     }
     coder.leave()
 }

@@ -13,6 +13,7 @@ mod block;
 mod blocks;
 mod bytes;
 mod coding;
+mod goal;
 mod known;
 #[cfg(test)]
 mod tests;

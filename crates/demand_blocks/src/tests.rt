@@ -14,7 +14,7 @@ use rd_hulls::Point;
 use std::alloc::{AllocError, Global};
 use std::test::Fail;
 
-// Codes passes of a block one by one until there are so many.
+// Codes passes of a block until there are so many or more.
 fn code_to(block: &mut DemandBlock<'_>, passes: u8, forgets: bool, buffer: &mut [u8])
     requires room { 77312 ≤ length buffer.old }
     requires few { length buffer.old < 2 ^ 31 }
@@ -22,7 +22,7 @@ fn code_to(block: &mut DemandBlock<'_>, passes: u8, forgets: bool, buffer: &mut 
 {
     for _ in 0..passes {
         if block.coded() < passes && !block.is_whole() {
-            block.code_more(buffer);
+            block.code_more(1 << 40, buffer);
             if forgets {
                 block.forget();
             }
@@ -52,9 +52,9 @@ fn whole(side: u32) -> Rect
     }
 }
 
-// The bytes and the distortion of the last point.
-fn last_point(points: &[Point]) -> (u32, u128) {
-    match points.last() {
+// The bytes and the distortion of the point of the first `k` passes.
+fn point_at(points: &[Point], k: u8) -> (u32, u128) {
+    match points.get(usize::from(k)) {
         Some(point) => (point.len, point.dist),
         None => (0, 0),
     }
@@ -79,7 +79,7 @@ fn has_codes(
         }
         let mut bytes = Vec::new(alloc);
         block.push_code(*passes, buffer, &mut bytes)?;
-        let (len, dist) = last_point(block.points().as_slice());
+        let (len, dist) = point_at(block.points().as_slice(), *passes);
         if bytes.as_slice() != *code
             || block.code_len(*passes) as usize != code.len()
             || block.distortion(*passes) != *distortion
@@ -194,7 +194,7 @@ fn code_of(alloc: Global, pass: &CodedPass, bytes: &[u8]) -> Result<Vec<u8>, All
     Ok(code)
 }
 
-// Whether after each of its passes a block has the code of the same block coded at once.
+// Whether a block has after each of its passes the code of the same block coded at once.
 fn has_passes(
     alloc: Global,
     view: BlockView<'_>,
@@ -206,20 +206,18 @@ fn has_passes(
     let mut block = DemandBlock::new(alloc, view, orient)?;
     let mut buffer = buffer_of(alloc)?;
     let buffer = buffer.as_mut_slice();
+    let mut k = 0u8;
     for pass in passes {
-        if block.is_whole() {
+        k = k.saturating_add(1);
+        code_to(&mut block, k, forgets, buffer);
+        if block.coded() < k {
             return Ok(false);
         }
-        block.code_more(buffer);
-        if forgets {
-            block.forget();
-        }
-        let coded = block.coded();
         let mut code = Vec::new(alloc);
-        block.push_code(coded, buffer, &mut code)?;
+        block.push_code(k, buffer, &mut code)?;
         if code.as_slice() != code_of(alloc, pass, bytes)?.as_slice()
-            || block.code_len(coded) != ended_len(&pass.mark)
-            || block.distortion(coded) != pass.distortion
+            || block.code_len(k) != ended_len(&pass.mark)
+            || block.distortion(k) != pass.distortion
         {
             return Ok(false);
         }
@@ -259,7 +257,10 @@ fn code_all<P: Passes>(passes: &mut P, block: u32) -> u32 {
         }
     }
     if block < passes.count() {
-        last_point(passes.points(block).as_slice()).0
+        match passes.points(block).as_slice().last() {
+            Some(point) => point.len,
+            None => 0,
+        }
     } else {
         0
     }
@@ -296,12 +297,18 @@ fn codes_one_block_and_leaves_the_other(rt: HostRuntime) -> Result<(), Fail> {
     let view = BlockView::of(&plane, whole(1));
     let first = DemandBlock::new(rt.alloc(), view, Orient::HH)?;
     let second = DemandBlock::new(rt.alloc(), view, Orient::HH)?;
-    let mut blocks = DemandBlocks::new(rt.alloc(), vec![in rt.alloc(); first, second]?)?;
+    let mut blocks = DemandBlocks::new(rt.alloc(), vec![in rt.alloc(); first, second]?, 1_302_083)?;
     assert_eq!(rt; code_all(&mut blocks, 1), 1);
     assert_eq!(rt; known_of(&blocks, 0), (1, 1, false));
     let (points, _, whole) = known_of(&blocks, 1);
     assert_eq!(rt; (points, whole), (20, true));
     let code = code_at(rt.alloc(), &mut blocks, 1, 19)?;
     assert_eq!(rt; code.as_slice(), [1, 0x04].as_slice());
+    for known in [19, 20] {
+        if blocks.count() == 2 && !blocks.is_whole(0) {
+            blocks.code_more(0);
+        }
+        assert_eq!(rt; known_of(&blocks, 0).0, known);
+    }
     Ok(())
 }

@@ -5,7 +5,7 @@ ghost use Rattle.demand_blocks.specs.Views.{coefs_in, shape_in};
 
 use crate::DemandBlock;
 use crate::bytes::push_ended;
-use crate::coding::code_up_to;
+use crate::coding::{Reach, code_up_to};
 use std::alloc::AllocError;
 
 impl DemandBlock<'_> {
@@ -33,7 +33,12 @@ impl DemandBlock<'_> {
                     self.planes,
                     &None,
                     &mut passes,
-                    k,
+                    Reach {
+                        least: k,
+                        most: k,
+                        price: 0,
+                        start: self.start,
+                    },
                     buffer,
                 );
                 push_ended(left.mark(), buffer, out)

@@ -48,6 +48,14 @@ fn undecoded(frame: &QuantisedFrame, blocks: &DemandBlocks) -> u128
     sum
 }
 
+// The bytes of a codestream that keeps limits, at most.
+fn most_bytes(limits: &Limits) -> u32 {
+    let [first, second, third] = limits.component;
+    limits
+        .frame
+        .min(first.saturating_add(second).saturating_add(third))
+}
+
 /// Chooses the coding passes of a frame under limits that its codestream keeps without any pass, by
 /// a walk from the steepest step of the hulls of its code-blocks to the flattest (J.14.3). The
 /// passes of a code-block are coded as the walk comes down to its steps.
@@ -75,7 +83,7 @@ pub fn choose(
     ensures codes { IfOk result (λ r. AreChosenCodes frame.entry.geometry.now
         frame.entry.steps.now (planes_in frame.entry) r.counts.items r.codes) }
 {
-    let blocks = frame_blocks(alloc, &frame)?;
+    let blocks = frame_blocks(alloc, &frame, most_bytes(limits))?;
     let empty = undecoded(&frame, &blocks);
     let mut price = FramePrice::new(alloc, frame, &blocks, packets)?;
     let mut offers = OnDemand::new(alloc, blocks)?;

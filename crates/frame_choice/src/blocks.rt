@@ -30,10 +30,12 @@ fn frame_block<'a>(
     Ok(block)
 }
 
-// The code-blocks of a frame, of which no pass is coded. The only refusal is out of memory.
+// The code-blocks of a frame, of which no pass is coded. About so many bytes of their codes will be
+// wanted: that is a matter of time alone. The only refusal is out of memory.
 pub(crate) fn frame_blocks<'a>(
     alloc: Global,
     frame: &QuantisedFrame<'a>,
+    room: u32,
 ) -> Result<DemandBlocks<'a>, AllocError>
     ensures { IfOk result (λ r. AreDemanded frame.now.geometry.now (planes_in frame.now)
         r.blocks.items) }
@@ -44,7 +46,7 @@ pub(crate) fn frame_blocks<'a>(
         let block = frame_block(alloc, frame, id)?;
         blocks.push(block)?;
     }
-    let made = DemandBlocks::new(alloc, blocks)?;
+    let made = DemandBlocks::new(alloc, blocks, room)?;
     Ok(made)
 }
 

@@ -133,7 +133,7 @@ fn the_magnitude_64(rt: HostRuntime) -> Result<(), Fail> {
         c1: &zeros,
         c2: &zeros,
     };
-    let blocks = frame_blocks(alloc, &frame)?;
+    let blocks = frame_blocks(alloc, &frame, 1_302_083)?;
     let packets = FramePackets::empty(alloc, &geometry, &sizes)?;
     let price = FramePrice::new(alloc, frame, &blocks, packets)?;
     assert_eq!(rt; (price.count(), price.held().frame), (3, 191));

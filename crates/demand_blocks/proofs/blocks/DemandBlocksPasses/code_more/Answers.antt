@@ -1,4 +1,4 @@
--- One pass more of one block is known, and the others are as they were.
+-- More passes of one block are known, and the others are as they were.
 use Rattle.std.proofs.Common.{ℕ, ◌+◌, ◌≡◌, List, Option, Some, length, slice_get, slice_set}
 use Rattle.std.proofs.Common.{refl, ap, ◌∙◌, arith}
 use Rattle.std.proofs.lemmas.Option.{slice_get_read}
@@ -19,13 +19,13 @@ pub returns-clause-grows : goal.returns-clause-grows
 returns-clause-grows c =
     let items : List DemandBlock = c.args.self.now.blocks.items in
     let n : ℕ = c.args.block in
-    let old : DemandBlock = c.index_mut.result.now in
+    let old : DemandBlock = c.index_mut-asked.result.now in
     let new : DemandBlock = c.code_more.new.self in
     let was = known_long (slice_get items n) old
-    (slice_get_read items (length items) n old refl c.requires.block c.index_mut.ensures.value) in
+    (slice_get_read items (length items) n old refl c.requires.block c.index_mut-asked.ensures.value) in
     let is = known_long (slice_get (slice_set items n new) n) new
     (set_here items n new c.requires.block) in
-    let more = c.code_more.ensures.one_more in
+    let more = c.code_more.ensures.more in
     omega (arith, was, is, more)
 
 pub returns-clause-others : goal.returns-clause-others
@@ -41,11 +41,11 @@ returns-clause-whole_others c = λ k other.
 pub returns-clause-stays : goal.returns-clause-stays
 returns-clause-stays c = λ k.
     let items : List DemandBlock = c.args.self.now.blocks.items in
-    let old : DemandBlock = c.index_mut.result.now in
+    let old : DemandBlock = c.index_mut-asked.result.now in
     let new : DemandBlock = c.code_more.new.self in
     let view = c.code_more.ensures.view in
     let orient = c.code_more.ensures.orient in
     set_same identity_in items c.args.block k old new
     (slice_get_read items (length items) c.args.block old refl c.requires.block
-    c.index_mut.ensures.value)
+    c.index_mut-asked.ensures.value)
     (λ i. Some (view i, orient i))
