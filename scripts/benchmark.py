@@ -63,7 +63,7 @@ def encoders(program):
             "opj_compress", f"-cinema{profile.upper()}", "24", "-i", source, "-o", target]))
     if shutil.which("grk_compress"):
         found.append(Encoder("grok", lambda source, target, profile: [
-            "grk_compress", f"-cinema{profile.upper()}", "24", "-H", "1",
+            "grk_compress", "-cinema2K" if profile == "2k" else "-cinema4k", "24", "-H", "1",
             "-i", source, "-o", target]))
     return found
 
