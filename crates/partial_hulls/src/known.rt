@@ -5,9 +5,8 @@ ghost use Rattle.rd_hulls.specs.Points.{ArePoints};
 
 use crate::bound::{bound_from, is_steeper};
 use crate::least::{least_term, term};
-use crate::search::best_step;
 use budget_duals::Offer;
-use rd_hulls::Point;
+use rd_hulls::{Point, best_step};
 
 /// The points of a code-block's first coding passes, as far as these are coded.
 #[derive(Clone, Copy, Debug)]

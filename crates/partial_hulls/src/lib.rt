@@ -21,7 +21,6 @@
 mod bound;
 mod known;
 mod least;
-mod search;
 #[cfg(test)]
 mod tests;
 

@@ -6,7 +6,8 @@
 //! gives the steps from corner to corner. Its clauses say that the steps follow on from no passes,
 //! that each one's bytes and gain are the differences of its two points, that no point lies under a
 //! step's line, that the slopes fall strictly, and that the last step ends at the point of least
-//! distortion, then of fewest bytes, then of fewest passes.
+//! distortion, then of fewest bytes, then of fewest passes. `best_step` is one step of it, also from
+//! points of which only the first are known.
 //!
 //! ```
 //! let steps = hull(block, &points);
@@ -24,4 +25,5 @@ mod tests;
 
 pub use lower::hull;
 pub use point::{Point, are_points};
+pub use search::best_step;
 pub use step::Step;

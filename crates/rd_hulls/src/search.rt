@@ -43,8 +43,10 @@ fn better(kept: Option<Step>, found: Option<Step>) -> Option<Step>
     }
 }
 
-// The steepest step from a corner; of equal slopes the longest one, and of equal points the first.
-pub(crate) fn best_step(block: u32, points: &[Point], corner: &Point) -> Option<Step>
+/// The steepest step from a corner to one of these points that has more bytes and less distortion;
+/// of equal slopes the longest one, and of equal points the first. `None` where no point has both.
+/// These may be the first points of a block only.
+pub fn best_step(block: u32, points: &[Point], corner: &Point) -> Option<Step>
     requires points { ArePoints points.now }
     requires within { corner.now.passes < length points.now }
     requires corner { IsPointOf points.now corner.now }
