@@ -3,7 +3,6 @@ ghost use Rattle.std.specs.Prelude.{ℕ, ◌≡◌, ◌+◌, ◌<◌, ◌≤◌,
 ghost use Rattle.std.specs.Prelude.{vec_capacity};
 ghost use Rattle.codeblock_views.specs.Magnitudes.{block_planes};
 ghost use Rattle.codeblock_views.specs.Views.{view_cells};
-ghost use Rattle.distortion_sums.specs.Distortion.{distortion};
 ghost use Rattle.ebcot_passes.specs.Code.{passes_of};
 ghost use Rattle.demand_blocks.specs.Begun.{AreFirst, IsKept};
 ghost use Rattle.demand_blocks.specs.BegunLaws.{first_prop, kept_prop};
@@ -14,7 +13,7 @@ use crate::coding::{Reach, code_up_to, left_where, prepare};
 use crate::goal::{is_reached, least_cost};
 use cine_nums::Orient;
 use codeblock_views::{BlockView, Coefs};
-use ebcot_passes::{BlockCoder, CodedPass, LeftBlock};
+use ebcot_passes::{CodedPass, LeftBlock, undecoded_distortion};
 use std::alloc::{AllocError, Global};
 
 /// A code-block of a plane, of which the first coding passes are coded.
@@ -44,17 +43,6 @@ pub struct DemandBlock<'a> {
             bytes.items },
 }
 
-// The distortion of a block without a pass, in units of half a step squared.
-fn distortion_of_none(view: &BlockView<'_>, orient: Orient, planes: u8) -> u64
-    requires { planes ≡ block_planes (view_cells view.now) }
-    ensures { result ≡ distortion (coefs_in view.now) (shape_in view.now orient planes) 0 }
-{
-    if planes == 0 {
-        return 0;
-    }
-    BlockCoder::load(view, orient, planes).distortion()
-}
-
 // How many passes a block of so many bit-planes has.
 fn most_passes(planes: u8) -> usize
     ensures { result ≡ passes_of planes }
@@ -75,7 +63,7 @@ impl<'a> DemandBlock<'a> {
         ensures none { IfOk result (λ b. b.passes.items ≡ []) }
     {
         let planes = view.planes();
-        let start = distortion_of_none(&view, orient, planes);
+        let start = undecoded_distortion(&view);
         let passes = Vec::with_capacity(alloc, most_passes(planes))?;
         Ok(DemandBlock {
             alloc,
@@ -111,8 +99,8 @@ impl<'a> DemandBlock<'a> {
         self.passes.len() == most_passes(self.planes)
     }
 
-    /// Whether no further pass can lower the distortion by as much as its bytes cost at this price.
-    pub fn is_coded_to(&self, price: u64) -> bool {
+    // Whether no further pass can lower the distortion by as much as its bytes cost at this price.
+    pub(crate) fn is_coded_to(&self, price: u64) -> bool {
         match self.passes.last() {
             Some(last) => {
                 is_reached(

@@ -172,6 +172,15 @@ block_fits cells s h w is long wide high =
       below = λ i. planes_fit cells s.planes i is;
     }
 
+-- the error of all rows
+pub all_rows : (planes h w y : ℕ) (cells : List Coefficient) → y ≡ h → length cells ≡ h * w →
+    start_sum planes (y * w) (coefs_of cells)
+    ≡ start_sum planes (length (coefs_of cells)) (coefs_of cells)
+all_rows planes h w y cells all long =
+    ap (λ (n : ℕ). start_sum planes n (coefs_of cells))
+    (ap (λ (v : ℕ). v * w) all ∙ sym long
+    ∙ sym (length-map cells (λ (q : Coefficient). (q.magnitude, q.negative))))
+
 -- the distortion of a block of which nothing is known
 pub start_is : (coefs : List (ℕ × Bool)) (s : Shape) (d : ℕ) → IsBlock coefs s →
     d ≡ start_sum s.planes (length coefs) coefs → d ≡ distortion coefs s 0

@@ -14,6 +14,7 @@ ghost use Rattle.ebcot_passes.specs.Coding.{AreCoefs};
 use crate::coded::CodedPass;
 use crate::load::fill;
 use crate::passes::code_next;
+use crate::undecoded::undecoded_distortion;
 use cine_nums::Orient;
 use codeblock_views::Coefs;
 use flag_words::{blank, significance_contexts};
@@ -98,7 +99,8 @@ impl BlockCoder {
         ensures count { result.mark.count ≡ 0 }
     {
         let mut grid = [0; 1024];
-        let start = fill(block, &mut grid);
+        fill(block, &mut grid);
+        let start = undecoded_distortion(block);
         let width = block.width() as usize;
         let height = block.height() as usize;
         BlockCoder::begin(orient, width, height, u32::from(planes), &grid, start)

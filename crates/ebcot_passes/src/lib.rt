@@ -6,7 +6,8 @@
 //! over what is known of each place; the ended code at the mark, from `mq_coder`, is then the code
 //! of these passes. Beside the mark stands the distortion that these passes leave, as
 //! `distortion_sums` defines it; it is carried on place by place, and no block is walked a second
-//! time. The flags are the words of `flag_words`. Nothing takes memory or is refused.
+//! time; [`undecoded_distortion`] is what is left where no pass is coded. The flags are the words of
+//! `flag_words`. Nothing takes memory or is refused.
 //!
 //! From the inside out: a place (`place`), the row of a column in each kind of pass (`rows`), a
 //! column (`columns`, `cleanup`), a stripe, a pass, a block. In each, `distortion` is that which is
@@ -33,8 +34,10 @@ mod rows;
 mod stripes;
 #[cfg(test)]
 mod tests;
+mod undecoded;
 
 pub use block::BlockCoder;
 pub use coded::{BlockCode, CodedPass};
 pub use coder::code;
 pub use left::LeftBlock;
+pub use undecoded::undecoded_distortion;

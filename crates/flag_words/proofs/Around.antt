@@ -1,15 +1,13 @@
 -- What the bits of a word say of a place of its column.
 use Rattle.std.proofs.Common.{ℕ, zero, suc, ◌+◌, ◌-◌, ◌*◌, ◌/◌, ◌%◌, ◌^◌, ◌<◌, ◌≤◌, ◌≡◌, Bool, true}
-use Rattle.std.proofs.Common.{false, not, ◌&&◌, ltb, eqb, List, length, refl, sym, ap, ◌∙◌, arith}
-use Rattle.std.proofs.Common.{subst}
-use Rattle.std.specs.Prelude.{if◌then◌else◌, nat_le, min, bit_and, ◌==◌}
+use Rattle.std.proofs.Common.{false, not, ltb, List, refl, sym, ap, ◌∙◌, arith}
+use Rattle.std.specs.Prelude.{if◌then◌else◌, nat_le, min, bit_and}
 use Rattle.std.specs.Int.{bit_at}
-use Rattle.std.proofs.lemmas.Bool.{lt-ltb, eqb-true, eq-eqb, agree_below, agree_below_at}
+use Rattle.std.proofs.lemmas.Bool.{lt-ltb}
 use Rattle.std.proofs.lemmas.Nat.{shr-shr, and_le_r}
-use Rattle.std.proofs.lemmas.Nat.Bits.{bit_at_and, bit_at-lt, bit_at-zero, same_from_bits_below}
-use Rattle.std.proofs.lemmas.Nat.Bits.{bit_at_above}
+use Rattle.std.proofs.lemmas.Nat.Bits.{bit_at_and, bit_at-lt}
 use Rattle.ebcot_contexts.specs.Cells.{Cell, is_significant, cell_at, number}
-use Rattle.ebcot_contexts.specs.Contexts.{Shape, bordered, neighbour, is_quiet}
+use Rattle.ebcot_contexts.specs.Contexts.{bordered, neighbour}
 use Rattle.ebcot_contexts.specs.Passes.{is_untouched}
 use Rattle.flag_words.specs.Words.{row_of, column_of, flag_at, flag_of, around, IsFlagWord, IsIn}
 use Rattle.flag_words.specs.Lookups.{neighbours_of}

@@ -1,22 +1,21 @@
 -- The words of a block of which nothing is known, and those of the next plane.
-use Rattle.std.proofs.Common.{ℕ, zero, suc, ◌+◌, ◌-◌, ◌*◌, ◌/◌, ◌%◌, ◌^◌, ◌<◌, ◌≤◌, ◌≡◌, ◌⊎◌, inl}
-use Rattle.std.proofs.Common.{inr, Bool, true, false, not, ◌&&◌, ◌||◌, ltb, leb, eqb, List, length}
+use Rattle.std.proofs.Common.{ℕ, zero, suc, ◌+◌, ◌-◌, ◌*◌, ◌/◌, ◌%◌, ◌<◌, ◌≤◌, ◌≡◌, ◌⊎◌, inl}
+use Rattle.std.proofs.Common.{inr, Bool, true, false, not, ◌&&◌, ◌||◌, ltb, leb, List, length}
 use Rattle.std.proofs.Common.{get_or, refl, sym, ap, ◌∙◌, arith, subst}
-use Rattle.std.specs.Prelude.{if◌then◌else◌, min, max, bit_and, nat_eq, nat_le, ◌==◌}
+use Rattle.std.specs.Prelude.{if◌then◌else◌, min, max, bit_and, nat_le, ◌==◌}
 use Rattle.std.specs.Int.{bit_at}
-use Rattle.std.specs.Int.RustNames.{bit_or}
-use Rattle.std.proofs.lemmas.Bool.{cases_eq, cases_lt, agree_below, agree_below_at, eqb-true}
+use Rattle.std.proofs.lemmas.Bool.{cases_lt, agree_below, agree_below_at, eqb-true}
 use Rattle.std.proofs.lemmas.Bool.{eq-eqb, eqb-false, lt-ltb, ltb-true, ltb-false, leb-true}
-use Rattle.std.proofs.lemmas.Bool.{leb-false, and_parts, not-true}
+use Rattle.std.proofs.lemmas.Bool.{leb-false, lt-leb, and_parts}
 use Rattle.std.proofs.lemmas.List.{get_or_past, get_or-replicate, length-replicate}
 use Rattle.std.proofs.lemmas.Nat.Bits.{bit_at_and, bit_at_or, bit_at-lt}
 use Rattle.std.proofs.lemmas.Nat.{mul-add-lt, mul-le}
 use Rattle.ebcot_contexts.specs.Cells.{Cell, fresh, is_significant, cell_at, number}
 use Rattle.ebcot_contexts.specs.Contexts.{Shape, bordered}
 use Rattle.ebcot_contexts.specs.Passes.{start, is_untouched}
-use Rattle.flag_words.specs.Words.{row_of, column_of, flag_at, flag_of, around, IsFlagWord}
+use Rattle.flag_words.specs.Words.{row_of, column_of, flag_at, flag_of, around}
 use Rattle.flag_words.specs.Words.{AreFlags}
-use Rattle.flag_words.specs.Blank.{is_outside, blank_word, blank_of, next_of}
+use Rattle.flag_words.specs.Blank.{is_beside, is_below, is_outside, blank_word, blank_of, next_of}
 use Rattle.flag_words.proofs.Runs.{or_cases}
 use Rattle.flag_words.proofs.Neighbours.{all, one}
 
@@ -164,7 +163,7 @@ module _ (s : Shape) (some : 1 ≤ s.planes) where
   at_above zero = none_outside q
   at_above (suc x) = none_outside q
 
-  parts : (a b c d : Bool) → (a || b || c || d) ≡ false →
+  parts : (a b c d : Bool) → ((a || b || c) || d) ≡ false →
       (a ≡ false) × (b ≡ false) × (c ≡ false) × (d ≡ false)
   parts false false false false e = (refl, refl, refl, refl)
   parts true b c d e = cc
@@ -172,7 +171,7 @@ module _ (s : Shape) (some : 1 ≤ s.planes) where
   parts false false true d e = cc
   parts false false false true e = cc
 
-  four_cases : (a b c d : Bool) → (a || b || c || d) ≡ true →
+  four_cases : (a b c d : Bool) → ((a || b || c) || d) ≡ true →
       ((a ≡ true) ⊎ (b ≡ true)) ⊎ ((c ≡ true) ⊎ (d ≡ true))
   four_cases true b c d e = inl (inl refl)
   four_cases false true c d e = inl (inr refl)
@@ -386,3 +385,31 @@ module _ (s : Shape) (some : 1 ≤ s.planes) where
 
           none : (k : ℕ) → flag_at k false false false false ≡ false
           none k = by (ltb k 18) (k == 18 || k % 3 == 1) (k % 3 == 2)
+
+-- the word of a column by whether it is beside the block
+abbrev blank_by : (h n : ℕ) → Bool → ℕ
+blank_by h n beside =
+    blank_word (beside || is_below h (n / 34) 0) (beside || is_below h (n / 34) 1)
+    (beside || is_below h (n / 34) 2) (beside || is_below h (n / 34) 3)
+
+-- beside the block all rows are outside
+pub beside_blank : (w h n : ℕ) → is_beside w (n % 34) (n / 34) ≡ true →
+    0x49200000 ≡ blank_of w h n
+beside_blank w h n e = sym (ap (blank_by h n) e)
+
+-- elsewhere those below it are
+pub below_blank : (w h n : ℕ) → is_beside w (n % 34) (n / 34) ≡ false →
+    blank_of w h n ≡ blank_word (is_below h (n / 34) 0) (is_below h (n / 34) 1)
+    (is_below h (n / 34) 2) (is_below h (n / 34) 3)
+below_blank w h n e = ap (blank_by h n) e
+
+-- and none, where all four are in the block
+pub inside_blank : (w h n : ℕ) → is_beside w (n % 34) (n / 34) ≡ false → 4 * (n / 34) ≤ h →
+    0 ≡ blank_of w h n
+inside_blank w h n e l =
+    sym (below_blank w h n e
+    ∙ (λ i. blank_word (row 0 (omega arith) i) (row 1 (omega arith) i)
+    (row 2 (omega arith) i) (row 3 (omega arith) i)))
+  where
+    row : (r : ℕ) → r < 4 → is_below h (n / 34) r ≡ false
+    row r few = lt-leb (h + 4) (4 * (n / 34) + r) (omega arith)

@@ -1,14 +1,14 @@
 -- Contexts by the bits of the neighbours.
 use Rattle.std.proofs.Common.{ℕ, zero, suc, ◌+◌, ◌-◌, ◌*◌, ◌/◌, ◌%◌, ◌<◌, ◌≡◌, Bool, true, false}
-use Rattle.std.proofs.Common.{not, ◌&&◌, leb, List, get_or, refl, sym, ap, ◌∙◌, arith, subst}
+use Rattle.std.proofs.Common.{◌&&◌, leb, List, get_or, refl, sym, ap, ◌∙◌, arith, subst}
 use Rattle.std.specs.Prelude.{if◌then◌else◌, bit_and, ◌==◌}
 use Rattle.std.specs.Int.{bit_at}
 use Rattle.std.proofs.lemmas.Bool.{eqb-true, and_parts}
-use Rattle.ebcot_contexts.specs.Cells.{Cell, is_significant, cell_at, number}
+use Rattle.ebcot_contexts.specs.Cells.{Cell, is_significant, number}
 use Rattle.ebcot_contexts.specs.Contexts.{Shape, Contribution, plus, even, minus, both}
-use Rattle.ebcot_contexts.specs.Contexts.{contribution_of, sign_context, significance_context}
+use Rattle.ebcot_contexts.specs.Contexts.{sign_context, significance_context}
 use Rattle.ebcot_contexts.specs.Contexts.{bordered, neighbour, context_at, sign_at}
-use Rattle.flag_words.specs.Words.{row_of, column_of, flag_at, flag_of, around, IsFlagWord, IsIn}
+use Rattle.flag_words.specs.Words.{row_of, column_of, flag_at, around, IsFlagWord, IsIn}
 use Rattle.flag_words.specs.Lookups.{neighbours_of, neighbour_context, contribution_by, packed}
 use Rattle.flag_words.specs.Lookups.{index_of}
 use Rattle.flag_words.specs.declared.signs.TheConstants.{SIGN_CONTEXTS}

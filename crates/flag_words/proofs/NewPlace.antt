@@ -1,16 +1,16 @@
 -- The flags of a block after a place became significant.
 use Rattle.std.proofs.Common.{ℕ, zero, suc, ◌+◌, ◌-◌, ◌*◌, ◌/◌, ◌%◌, ◌^◌, ◌<◌, ◌≤◌, ◌≡◌, ◌⊎◌, inl}
-use Rattle.std.proofs.Common.{inr, Bool, true, false, leb, ltb, not, List, [], ◌∷◌, length, get_or}
+use Rattle.std.proofs.Common.{inr, Bool, true, false, ltb, not, List, [], ◌∷◌, length, get_or}
 use Rattle.std.proofs.Common.{set, refl, sym, ap, ◌∙◌, arith, subst}
-use Rattle.std.proofs.lemmas.Bool.{cases_eq, lt-ltb}
-use Rattle.std.proofs.lemmas.List.{get_or-set_same, get_or-set_other, length-set, set-set}
+use Rattle.std.proofs.lemmas.Bool.{cases_eq}
+use Rattle.std.proofs.lemmas.List.{get_or-set_same, length-set, set-set}
 use Rattle.std.specs.Prelude.{nat_le}
 use Rattle.std.specs.Int.RustNames.{bit_or}
-use Rattle.ebcot_contexts.specs.Cells.{Cell, is_significant, cell_at, number, become_significant}
+use Rattle.ebcot_contexts.specs.Cells.{Cell, cell_at, number, become_significant}
 use Rattle.ebcot_contexts.specs.Passes.{is_untouched}
-use Rattle.flag_words.specs.Words.{IsFlagWord, AreFlags, IsIn, IsOpen, IsNew, or_at, three_at}
+use Rattle.flag_words.specs.Words.{AreFlags, IsOpen, IsNew, or_at, three_at}
 use Rattle.flag_words.specs.Words.{spread}
-use Rattle.flag_words.proofs.Words.{Shows, Changes}
+use Rattle.flag_words.proofs.Words.{Shows}
 use Rattle.flag_words.proofs.Masks.{Has, fits, or_changes}
 use Rattle.flag_words.proofs.Spread.{In, Mixed, mixed_start, mixed_more, mixed_end, decide_in}
 use Rattle.flag_words.proofs.Spread.{or_under}

@@ -1,19 +1,19 @@
 -- The flags of a block after a place learned a bit, or became significant.
-use Rattle.std.proofs.Common.{ℕ, zero, suc, ◌+◌, ◌-◌, ◌*◌, ◌/◌, ◌%◌, ◌^◌, ◌<◌, ◌≤◌, ◌≡◌, ◌⊎◌, inl}
-use Rattle.std.proofs.Common.{inr, Bool, true, false, leb, not, ◌||◌, ◌&&◌, ltb, eqb, List, [], ◌∷◌}
+use Rattle.std.proofs.Common.{ℕ, zero, suc, ◌+◌, ◌-◌, ◌*◌, ◌/◌, ◌%◌, ◌^◌, ◌<◌, ◌≤◌, ◌≡◌, inl}
+use Rattle.std.proofs.Common.{inr, Bool, true, false, not, ◌||◌, ◌&&◌, ltb, List}
 use Rattle.std.proofs.Common.{length, get_or, set, refl, sym, ap, ◌∙◌, arith, subst}
 use Rattle.std.specs.Prelude.{if◌then◌else◌, nat_le, ◌==◌}
-use Rattle.std.proofs.lemmas.Bool.{cases_eq, agree_below, agree_below_at, lt-ltb, eqb-true, eq-eqb}
+use Rattle.std.proofs.lemmas.Bool.{cases_eq, agree_below_at, lt-ltb, eqb-true}
 use Rattle.std.proofs.lemmas.Bool.{ltb-true, ltb-false, le-leb}
-use Rattle.std.proofs.lemmas.List.{get_or-set_same, get_or-set_other, length-set, set-set}
+use Rattle.std.proofs.lemmas.List.{get_or-set_same, get_or-set_other, length-set}
 use Rattle.std.specs.Int.RustNames.{bit_or}
 use Rattle.std.proofs.lemmas.Bool.{and_parts}
 use Rattle.ebcot_contexts.specs.Cells.{Cell, is_significant, cell_at, number, learn}
 use Rattle.ebcot_contexts.specs.Passes.{is_untouched, learned}
-use Rattle.flag_words.specs.Words.{row_of, column_of, flag_at, flag_of, IsFlagWord, AreFlags, IsIn}
-use Rattle.flag_words.specs.Words.{IsOpen, IsNew}
+use Rattle.flag_words.specs.Words.{row_of, column_of, flag_at, flag_of, IsFlagWord, AreFlags}
+use Rattle.flag_words.specs.Words.{IsOpen}
 use Rattle.flag_words.proofs.Words.{Shows, word_kept, word_with, Changes}
-use Rattle.flag_words.proofs.Masks.{Has, fits, or_changes}
+use Rattle.flag_words.proofs.Masks.{fits, or_changes}
 
 -- a bit that is of significance or of sign, or else of the own column's rows 1 to 4
 abbrev kind_at : ℕ → Bool

@@ -1,12 +1,12 @@
 -- Words that are changed one after the other, until all of them show a cell's new value.
-use Rattle.std.proofs.Common.{ℕ, zero, suc, ◌+◌, ◌-◌, ◌*◌, ◌/◌, ◌%◌, ◌<◌, ◌≤◌, ◌≡◌, ◌⊎◌, inl, inr}
-use Rattle.std.proofs.Common.{Bool, true, false, List, [], ◌∷◌, length, get_or, set, refl, sym, ap}
+use Rattle.std.proofs.Common.{ℕ, ◌+◌, ◌*◌, ◌<◌, ◌≡◌, ◌⊎◌, inl, inr}
+use Rattle.std.proofs.Common.{List, [], ◌∷◌, length, get_or, set, sym, ap}
 use Rattle.std.proofs.Common.{◌∙◌, arith, subst}
 use Rattle.std.proofs.lemmas.Bool.{cases_eq}
-use Rattle.std.proofs.lemmas.List.{get_or-set_same, get_or-set_other, length-set, set_comm, set-set}
+use Rattle.std.proofs.lemmas.List.{get_or-set_same, get_or-set_other, length-set, set_comm}
 use Rattle.std.specs.Int.RustNames.{bit_or}
 use Rattle.ebcot_contexts.specs.Cells.{Cell}
-use Rattle.flag_words.specs.Words.{IsFlagWord, AreFlags, IsIn, or_at}
+use Rattle.flag_words.specs.Words.{IsFlagWord, AreFlags, or_at}
 use Rattle.flag_words.proofs.Words.{Shows, word_with, word_without, Changes}
 
 abbrev pub In : ℕ → List ℕ → Type 0

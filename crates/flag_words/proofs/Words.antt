@@ -1,11 +1,10 @@
 -- The words of a block, before and after one of its cells changes.
-use Rattle.std.proofs.Common.{ℕ, zero, suc, ◌+◌, ◌-◌, ◌*◌, ◌/◌, ◌%◌, ◌<◌, ◌≡◌, inl, inr, Bool, true}
-use Rattle.std.proofs.Common.{false, ltb, List, length, set, refl, sym, ap, ◌∙◌, arith, subst}
+use Rattle.std.proofs.Common.{ℕ, suc, ◌+◌, ◌-◌, ◌*◌, ◌/◌, ◌%◌, ◌<◌, ◌≡◌, inl, inr, Bool, true}
+use Rattle.std.proofs.Common.{false, ltb, List, length, set, refl, sym, ap, ◌∙◌, arith}
 use Rattle.std.specs.Prelude.{if◌then◌else◌}
 use Rattle.std.specs.Int.{bit_at}
-use Rattle.std.proofs.lemmas.Bool.{cases_eq, ltb-true, ltb-false}
-use Rattle.ebcot_contexts.specs.Cells.{Cell, fresh, cell_at, number}
-use Rattle.ebcot_contexts.specs.Contexts.{bordered}
+use Rattle.std.proofs.lemmas.Bool.{cases_eq, ltb-true}
+use Rattle.ebcot_contexts.specs.Cells.{Cell, cell_at, number}
 use Rattle.flag_words.specs.Words.{row_of, column_of, flag_of, around, IsFlagWord}
 use Rattle.flag_words.proofs.Borders.{bordered_at, bordered_same, bordered_other}
 

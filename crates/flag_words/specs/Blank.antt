@@ -3,10 +3,17 @@ use Rattle.std.specs.Prelude.{ℕ, ◌+◌, ◌*◌, ◌/◌, ◌%◌, ◌^◌, 
 use Rattle.std.specs.Int.RustNames.{bit_or}
 use Rattle.ebcot_contexts.specs.Cells.{number}
 
+-- a column of a stripe is left or right of a block, or above it
+abbrev pub is_beside : ℕ → ℕ → ℕ → Bool
+is_beside w column stripe = column == 0 || nat_lt w column || stripe == 0
+
+-- a row of a stripe is below a block
+abbrev pub is_below : ℕ → ℕ → ℕ → Bool
+is_below h stripe row = nat_le (h + 4) (4 * stripe + row)
+
 -- a row of a column of a stripe is outside a block
 abbrev pub is_outside : ℕ → ℕ → ℕ → ℕ → ℕ → Bool
-is_outside w h column stripe row =
-    column == 0 || nat_lt w column || stripe == 0 || nat_le (h + 4) (4 * stripe + row)
+is_outside w h column stripe row = is_beside w column stripe || is_below h stripe row
 
 -- the word of a column, of a block of which nothing is known: what is outside is touched
 abbrev pub blank_word : Bool → Bool → Bool → Bool → ℕ

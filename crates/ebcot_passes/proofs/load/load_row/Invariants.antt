@@ -1,7 +1,5 @@
-use Rattle.std.proofs.Common.{ℕ, ◌+◌, ◌*◌, ◌^◌, ◌<◌, ◌≤◌, ◌≡◌, length}
-use Rattle.ebcot_contexts.specs.Cells.{coef_at}
+use Rattle.std.proofs.Common.{◌+◌, ◌*◌, ◌≡◌, length}
 use Rattle.distortion_sums.specs.Coefs.{coefs_of}
-use Rattle.distortion_sums.specs.Places.{start_sum}
 use Rattle.ebcot_passes.specs.Coding.{AreLoaded}
 use Rattle.ebcot_passes.proofs.load.load_row.Given as goal
 
@@ -10,10 +8,4 @@ invariant-loop-x g l = record {
   long : length l.grid ≡ 1024;
   before : AreLoaded (g.C.Coefs.columns l.block) (l.y * g.C.Coefs.columns l.block + l.x)
       (coefs_of (g.C.Coefs.cells l.block)) l.grid;
-  sum : (planes : ℕ) → ((i : ℕ) → (coef_at (coefs_of (g.C.Coefs.cells l.block)) i).0 < 2 ^ planes)
-      → start_sum planes (l.y * g.C.Coefs.columns l.block) (coefs_of (g.C.Coefs.cells l.block))
-      + l.sum
-      ≡ start_sum planes (l.y * g.C.Coefs.columns l.block + l.x)
-      (coefs_of (g.C.Coefs.cells l.block));
-  few : l.sum ≤ 4398046511104 * l.x;
 }

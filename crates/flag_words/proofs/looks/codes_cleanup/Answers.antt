@@ -1,4 +1,4 @@
-use Rattle.std.proofs.Common.{not, ◌&&◌, eqb, ap, ◌∙◌}
+use Rattle.std.proofs.Common.{not, ap, ◌∙◌}
 use Rattle.flag_words.proofs.Quiet.{cleanup_test}
 use Rattle.flag_words.proofs.looks.codes_cleanup.Goals as goal
 

@@ -1,4 +1,4 @@
-use Rattle.std.proofs.Common.{not, ◌&&◌, eqb, ap, ◌∙◌}
+use Rattle.std.proofs.Common.{not, ◌&&◌, ◌∙◌}
 use Rattle.flag_words.proofs.Quiet.{refinement_test}
 use Rattle.flag_words.proofs.looks.codes_refinement.Goals as goal
 

@@ -1,4 +1,4 @@
-use Rattle.std.proofs.Common.{not, ◌&&◌, eqb, ap, ◌∙◌}
+use Rattle.std.proofs.Common.{not, ◌&&◌, eqb, ◌∙◌}
 use Rattle.flag_words.proofs.Quiet.{significance_test}
 use Rattle.flag_words.proofs.looks.codes_significance.Goals as goal
 

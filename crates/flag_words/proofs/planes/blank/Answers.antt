@@ -1,8 +1,7 @@
-use Rattle.std.proofs.Common.{ℕ, ◌-◌, ◌≡◌, ◌<◌, inl, inr, length, get_or, set, refl, sym, ap, ◌∙◌}
+use Rattle.std.proofs.Common.{ℕ, ◌-◌, ◌≡◌, inl, inr, get_or, set, sym, ◌∙◌}
 use Rattle.std.proofs.Common.{arith, subst}
 use Rattle.std.proofs.lemmas.Bool.{cases_eq}
 use Rattle.std.proofs.lemmas.List.{get_or-set_same, get_or-set_other, length-set, length-replicate}
-use Rattle.ebcot_contexts.specs.Contexts.{Shape}
 use Rattle.ebcot_contexts.specs.Passes.{start}
 use Rattle.flag_words.specs.Words.{AreFlags}
 use Rattle.flag_words.specs.Blank.{blank_of}

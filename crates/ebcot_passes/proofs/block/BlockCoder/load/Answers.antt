@@ -3,7 +3,7 @@ use Rattle.dz_quantiser.specs.Coefficient.{Coefficient}
 use Rattle.ebcot_contexts.specs.Meaning.{IsBlock}
 use Rattle.distortion_sums.specs.Coefs.{coefs_of}
 use Rattle.ebcot_passes.specs.Coding.{AreCoefs}
-use Rattle.ebcot_passes.proofs.Loading.{planes_few, block_fits, start_is}
+use Rattle.ebcot_passes.proofs.Loading.{planes_few, block_fits}
 use Rattle.ebcot_passes.proofs.block.BlockCoder.load.Goals as goal
 
 pub begin-requires-clause-few_planes : goal.begin-requires-clause-few_planes
@@ -21,9 +21,9 @@ returns-clause-loads g c = λ s buffer orient wide high planes.
     (planes ∙ c.requires.planes) (g.met.C.Coefs.whole c.args.block.now) wide high in
     c.begin.ensures.begins coefs s buffer orient (wide ∙ sym c.width-width.ensures)
     (high ∙ sym c.height-height.ensures) (planes ∙ sym c.from.ensures)
-    (subst (λ (w : ℕ). AreCoefs w c.height-height.result coefs c.fill-start.new.grid)
+    (subst (λ (w : ℕ). AreCoefs w c.height-height.result coefs c.fill.new.grid)
     (sym c.width-width.ensures)
-    (subst (λ (h : ℕ). AreCoefs (g.C.Coefs.columns c.args.block.now) h coefs c.fill-start.new.grid)
-    (sym c.height-height.ensures) c.fill-start.ensures.grid))
+    (subst (λ (h : ℕ). AreCoefs (g.C.Coefs.columns c.args.block.now) h coefs c.fill.new.grid)
+    (sym c.height-height.ensures) c.fill.ensures))
     fits
-    (start_is coefs s c.fill-start.result fits (c.fill-start.ensures.sum s.planes fits.below))
+    (c.undecoded_distortion-start.ensures s wide high (planes ∙ c.requires.planes))
