@@ -5,7 +5,7 @@ ghost use Rattle.demand_blocks.specs.Views.{coefs_in, shape_in};
 ghost use Rattle.demand_blocks.specs.declared.block.DemandBlock.{DemandBlock};
 
 use crate::DemandBlock;
-use crate::goal::goal;
+use crate::goal::Goal;
 use arrayvec::ArrayVec;
 use offers_on_demand::Passes;
 use rd_hulls::Point;
@@ -20,7 +20,7 @@ const BLOCK_BYTES: usize = 77_312;
 pub struct DemandBlocks<'a> {
     pub(crate) blocks: Vec<DemandBlock<'a>>,
     pub(crate) buffer: Vec<u8>,
-    pub(crate) price: u64,
+    pub(crate) goal: Goal,
     ghost few: { length blocks.items < 2 ^ 32 },
     ghost room: { length buffer.items ≡ 77312 },
 }
@@ -37,11 +37,11 @@ impl<'a> DemandBlocks<'a> {
         ensures { IfOk result (λ r. r.blocks.items ≡ blocks.entry.items) }
     {
         let mut buffer = vec![in alloc; 0; BLOCK_BYTES]?;
-        let price = goal(blocks.as_slice(), room, buffer.as_mut_slice());
+        let goal = Goal::new(blocks.as_slice(), room, buffer.as_mut_slice());
         Ok(DemandBlocks {
             blocks,
             buffer,
-            price,
+            goal,
         })
     }
 
@@ -122,9 +122,7 @@ impl Passes for DemandBlocks<'_> {
 
     fn code_more(&mut self, block: u32) {
         let asked = &mut self.blocks[block as usize];
-        if asked.is_coded_to(self.price) {
-            self.price = self.price.saturating_sub(self.price / 4 + 1);
-        }
-        asked.code_more(self.price, self.buffer.as_mut_slice());
+        let price = self.goal.price_for(asked);
+        asked.code_more(price, self.buffer.as_mut_slice());
     }
 }
