@@ -3,8 +3,8 @@
 //! frame, within the byte limits of the DCI Digital Cinema System Specification; checks a folder of
 //! codestreams, whoever wrote them; and shows both with a frame that it makes from a number.
 //!
-//! `run` promises what is written, what is said and why a run ended. `run_program` makes its
-//! objects and the exit status, and `main` only gives it the words.
+//! `run` of `cinema_run` promises what is written, what is said and why a run ended. `run_program`
+//! makes its objects and the exit status, and `main` only gives it the words.
 //!
 //! ```text
 //! cinema encode frames out --profile 2k
@@ -14,28 +14,14 @@
 //! ```
 #![tactic(auto)]
 
-mod arguments;
-mod check;
 #[cfg(test)]
 mod check_tests;
-mod demo;
 #[cfg(test)]
 mod demo_tests;
-mod frame;
-mod frames;
 mod help;
-mod laws;
-mod output;
 mod program;
-mod refusal;
-mod report_line;
-mod run;
-mod stop;
-mod stream_refused;
 #[cfg(test)]
 mod tests;
-mod verdict;
-mod widths;
 
 use program::run_program;
 use std::process::ExitCode;

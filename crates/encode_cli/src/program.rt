@@ -2,12 +2,11 @@
 ghost use Rattle.std.specs.Prelude.{◌≡◌, ◌⊎◌, ◌==◌, ◌≤◌, false, IfOk};
 ghost use Rattle.std.specs.Process.{exit_status};
 ghost use Rattle.command_words.specs.Taken.{texts};
-ghost use Rattle.encode_cli.specs.Arguments.{AreCommand};
+ghost use Rattle.cinema_run.specs.Arguments.{AreCommand};
 
-use crate::arguments::{FolderWords, places};
 use crate::help::page_of;
-use crate::run::run;
 use cine_ports::{Frames, NullOutputs, SteadyFrames};
+use cinema_run::{FolderWords, places, run};
 use std::alloc::AllocError;
 use std::process::ExitCode;
 use std::{fs, io};
@@ -132,6 +131,7 @@ pub fn run_program(rt: &HostRuntime, words: io::Result<Vec<String>>) -> ExitCode
 #[cfg(test)]
 mod tests {
     use super::*;
+    use crate::tests::words;
     use std::test::Fail;
 
     /// A grey frame of one pixel.
@@ -195,6 +195,32 @@ mod tests {
             assert!(rt; shown.as_str() == *want, "{line}");
         }
         fs::remove_dir_all(&rt, "test-status")?;
+        Ok(())
+    }
+
+    /// Words, and the source, the target and the suffix of their command, `-` for none.
+    const PLACES: &[(&str, &str, &str, &str)] = &[
+        ("encode src dst --profile 2k", "src", "dst", ".ppm"),
+        ("check dst", "dst", "-", ".j2c"),
+        ("demo 1 --profile 2k", "-", "-", ""),
+    ];
+
+    fn shown(folder: &Option<String>) -> &str {
+        match folder {
+            Some(folder) => folder.as_str(),
+            None => "-",
+        }
+    }
+
+    #[test]
+    fn places_of_a_command(rt: HostRuntime) -> Result<(), Fail> {
+        for (text, source, target, suffix) in PLACES {
+            let words = words(rt.alloc(), text)?;
+            let found = places(rt.alloc(), words.as_slice())?.ok_or("no command")?;
+            assert_eq!(rt; shown(&found.source), *source);
+            assert_eq!(rt; shown(&found.target), *target);
+            assert_eq!(rt; found.suffix.as_str(), *suffix);
+        }
         Ok(())
     }
 }

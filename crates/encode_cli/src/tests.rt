@@ -1,10 +1,9 @@
 // Whole runs, over objects in memory and over folders.
 ghost use Rattle.std.specs.Prelude.{◌≤◌};
 
-use crate::arguments::places;
 use crate::check_tests::checked;
-use crate::run::run;
 use cine_ports::{MemoryFrame, MemoryFrames, MemoryOutputs, MemoryReport, is_frame_list};
+use cinema_run::{places, run};
 use std::alloc::{AllocError, Global};
 use std::fs;
 use std::test::Fail;

@@ -1,7 +1,7 @@
 use Rattle.std.proofs.Common.{ℕ, ◌≡◌, ◌⊎◌, IfOk, inl, inr, sym, subst, ◌∙◌}
 use Rattle.std.specs.Process.{exit_status}
 use Rattle.command_words.specs.Taken.{texts}
-use Rattle.encode_cli.specs.Arguments.{AreCommand}
+use Rattle.cinema_run.specs.Arguments.{AreCommand}
 use Rattle.encode_cli.proofs.program.run_program.Goals as goal
 
 -- words that are no command end with 2 or 6, so with 6 if not with 2

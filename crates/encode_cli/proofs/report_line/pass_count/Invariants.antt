@@ -1,9 +1,0 @@
-use Rattle.std.proofs.Common.{◌≡◌, ◌≤◌, ◌*◌, sum, take}
-use Rattle.encode_cli.proofs.report_line.pass_count.Given as goal
-
--- the passes of the blocks so far
-abbrev pub invariant-loop-passes : goal.invariant-loop-passes
-invariant-loop-passes l = record {
-  few : l.count ≤ 255 * l.passes-index;
-  made : l.count ≡ sum (take l.passes-index l.choice);
-}
