@@ -21,7 +21,7 @@ pub fn taking()
         → AreBudgets w → Stands w steps front o → Takes w o s rest n → Stands w steps s n }
 {}
 
-/// So does closing a budget, whichever it is of those that the step would break.
+/// So does closing a budget that the step would break.
 pub fn closing()
     ensures { (w : Budgets) (steps : ℕ → List Step) (front : Step) (o : Outcome) (s : Step)
         (rest : List Step) (j : ℕ) (n : Outcome)

@@ -190,6 +190,7 @@ certified_frame limits blocks inside held steps counts done left closed numbers 
       budgets = budgets;
       closed = closed;
       settled = settled;
+      reached = allocated.reached;
       multipliers = λ j lt. same j lt ∙ allocated.multipliers j lt;
       gap = is_gap;
       rivals = certificate.rivals c.gap is_gap;

@@ -10,7 +10,7 @@ use Rattle.allocation_bound.specs.Settled.{Budgets, AreBudgets, Outcome, IsSettl
 use Rattle.allocation_bound.specs.Settled.{block_rate}
 use Rattle.allocation_bound.specs.Steps.{Agrees, excess, lens, level, scale}
 use Rattle.allocation_bound.specs.Sums.{upto}
-use Rattle.allocation_bound.specs.Walk.{IsStart}
+use Rattle.allocation_bound.specs.Walk.{IsStart, IsReached}
 use Rattle.allocation_bound.proofs.Certified.{certified}
 use Rattle.allocation_bound.proofs.Levels.{block_rate_is}
 use Rattle.allocation_bound.proofs.Start.{walk_start, steepest}
@@ -35,7 +35,11 @@ walk_begins w counts done left closed opens long within zeros none =
       done = none;
       left = λ b inside. refl;
       open_all = opens;
-    } in (steepest, walk_start w left (so_far counts done left closed) start)
+    } in record {
+      front = steepest;
+      stands = walk_start w left (so_far counts done left closed) start;
+      reached = ([], start);
+    }
 
 pub are_steps : (most : List ℕ) (blocks : ℕ) (steps : ℕ → List Step) → length most ≡ blocks
     → CanWalk most steps → AreSteps blocks steps
@@ -68,13 +72,13 @@ multiplier_small around closed j = above_small (closed j) (base closed (around j
 -- what the code computes is the definitions'
 pub allocated : (w : Budgets) (steps : ℕ → List Step) (o : Outcome) (numbers : List ℕ) (g : ℕ)
     → AreBudgets w → AreSteps w.blocks steps
-    → IsSettled w steps o → length numbers ≡ w.number
+    → IsReached w steps o → IsSettled w steps o → length numbers ≡ w.number
     → ((j : ℕ) → j < w.number → number_at numbers j ≡ multiplier_of w o j)
     → g ≡ rounded_up (upto w.blocks
     (λ b. excess (base o.closed (chain w.around (w.node b))) (o.left b))
     + upto w.number (λ j. number_at numbers j * (w.limit j - w.held o.counts j)))
     → IsAllocated w steps o numbers g
-allocated w steps o numbers g budgets are settled long same is =
+allocated w steps o numbers g budgets are reached settled long same is =
     let over : upto w.blocks (λ b. excess (base o.closed (chain w.around (w.node b))) (o.left b))
     ≡ upto w.blocks (λ b. excess (block_rate w o b) (o.left b)) =
     upto_same w.blocks (λ b. excess (base o.closed (chain w.around (w.node b))) (o.left b))
@@ -86,6 +90,7 @@ allocated w steps o numbers g budgets are settled long same is =
     (λ j. multiplier_of w o j * slack w o j)
     (λ j inside. ap (λ m. m * slack w o j) (same j inside)) in
     record {
+      reached = reached;
       settled = settled;
       certificate = certified w steps o budgets are settled;
       long = long;

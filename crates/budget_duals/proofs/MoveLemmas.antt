@@ -9,12 +9,12 @@ use Rattle.allocation_bound.specs.Sums.{upto}
 use Rattle.allocation_bound.specs.Budgets.{Closed, chain, first, nearer}
 use Rattle.allocation_bound.specs.Settled.{Budgets, AreBudgets, Outcome, nearest}
 use Rattle.allocation_bound.specs.Walk.{Takes, Closes}
-use Rattle.allocation_bound.proofs.Chains.{chain_below, on_below}
+use Rattle.allocation_bound.proofs.Chains.{chain_below, chain_is_chain, on_below}
 use Rattle.allocation_bound.proofs.Take.{walk_take, first_none}
 use Rattle.allocation_bound.proofs.Close.{walk_close}
 use Rattle.budget_duals.specs.Tree.{closed_by, outermost}
 use Rattle.budget_duals.specs.Walking.{so_far, Walks, IsNextStep, is_none, open_count, ahead}
-use Rattle.budget_duals.proofs.TreeLemmas.{none_broken, is_broken}
+use Rattle.budget_duals.proofs.TreeLemmas.{none_broken, is_broken, outside_kept}
 
 pub upto_at_most : (n : ℕ) (f g : ℕ → ℕ) → ((j : ℕ) → j < n → f j ≤ g j) → upto n f ≤ upto n g
 upto_at_most zero f g le = omega arith
@@ -151,7 +151,11 @@ takes w counts new_counts done left new_done new_left closed s budgets next fits
       other_done = dones;
       other_left = lefts;
       closed = λ j. refl;
-    } in (s, walk_take w budgets steps walks.0 o walks.1 s next.0 n move)
+    } in record {
+      front = s;
+      stands = walk_take w budgets steps walks.front o walks.stands s next.0 n move;
+      reached = (o ∷ walks.reached.0, (walks.reached.1, (s, (next.0, inl move))));
+    }
 
 pub closes : (w : Budgets) (counts : List ℕ) (done left : ℕ → List Step)
     (closed : List (Option Step)) (s : Step) (j : ℕ)
@@ -169,12 +173,19 @@ closes w counts done left closed s j budgets below next breaks steps walks =
       next = next.1;
       on = broken.0;
       breaks = broken.1;
+      outermost = outside_kept w.around w.limit (w.held (set counts s.block s.to))
+          (chain w.around (w.node s.block)) j
+          (chain_is_chain w.around budgets.nested (w.node s.block)) breaks;
       counts = refl;
       done = λ b. refl;
       left = λ b. refl;
       closed = get_or-set_same closed j (Some s) None below;
       other_closed = λ i ne. get_or-set_other closed j i (Some s) None ne;
-    } in (s, walk_close w budgets steps walks.0 o walks.1 s next.0 j n move)
+    } in record {
+      front = s;
+      stands = walk_close w budgets steps walks.front o walks.stands s next.0 j n move;
+      reached = (o ∷ walks.reached.0, (walks.reached.1, (s, (next.0, inr (j, move)))));
+    }
 
 -- the broken budget is one of the budgets, and was open
 pub broken_inside : (w : Budgets) (o : Outcome) (s : Step) (j : ℕ) (held : ℕ → ℕ) → AreBudgets w

@@ -1,5 +1,5 @@
 -- One entry leaves the heap, and another may take its place.
-use Rattle.std.proofs.Common.{ℕ, ◌≡◌, ◌≢◌, ◌+◌, ◌*◌, ◌<◌, ◌≤◌, ◌⊎◌, inl, inr, false, List, [], ◌∷◌}
+use Rattle.std.proofs.Common.{ℕ, ◌≡◌, ◌≢◌, ◌+◌, ◌*◌, ◌<◌, ◌≤◌, ◌⊎◌, inl, inr, true, false, List, [], ◌∷◌}
 use Rattle.std.proofs.Common.{◌++◌, None, arith, refl, sym, ap, subst, ◌∙◌}
 use Rattle.std.proofs.ByRecursion.{all_shuffled}
 use Rattle.std.proofs.lemmas.Bool.{cases_eq}
@@ -10,7 +10,7 @@ use Rattle.std.proofs.lemmas.List.Sorted.{sum_by-IsPermutation, sum_by_pushed, s
 use Rattle.std.specs.BinaryHeap.{IsUpperBound}
 use Rattle.std.specs.List.{AllByRecursion}
 use Rattle.std.specs.List.Sorted.{IsPermutation}
-use Rattle.std.specs.Ordering.{nat_cmp, is_lt, ordering_then, MatchOrdering}
+use Rattle.std.specs.Ordering.{nat_cmp, bool_cmp, is_lt, ordering_then, MatchOrdering}
 use Rattle.std.specs.declared.cmp.Ordering.{Ordering}
 use Rattle.std.specs.declared.cmp.Ordering.TheVariants.{Less, Equal, Greater}
 use Rattle.rd_hulls.specs.declared.step.Step.{Step as HullStep}
@@ -18,11 +18,11 @@ use Rattle.rd_hulls.specs.Steps.{FallFrom, IsFalling}
 use Rattle.allocation_bound.specs.Steps.{IsAsSteep, IsHead}
 use Rattle.allocation_bound.specs.Settled.{Budgets, Outcome, nearest}
 use Rattle.allocation_bound.proofs.Products.{steep_by, steep_self, steep_through}
-use Rattle.allocation_bound.proofs.Lists.{all_weaker}
+use Rattle.allocation_bound.proofs.Lists.{all_weaker, at_head}
 use Rattle.budget_duals.specs.declared.entry.Entry.{Entry}
 use Rattle.budget_duals.specs.declared.offer.Offer.{Offer}
 use Rattle.budget_duals.specs.declared.offer.Offer.TheVariants.{Nothing, Step, AtMost}
-use Rattle.budget_duals.specs.Entries.{gain_of, len_of, entry_cmp}
+use Rattle.budget_duals.specs.Entries.{gain_of, len_of, is_bound, entry_cmp}
 use Rattle.budget_duals.specs.Offers.{IsOffer, IsNoSteeper}
 use Rattle.budget_duals.specs.Queue.{is_at, count_at, IsEntry, IsQueue, Covers, Refilled}
 
@@ -315,5 +315,77 @@ top_steepest w o offered items rest x s queue same upper covers is true_offers f
             subst (IsOffer (o.left b)) (ap offered (sym f.1) ∙ sym f.2.0.offer)
             (true_offers b inside) in
             above_offer s f.0.offer (o.left b) own_offer (falls b inside) slope_s)
+      ]
+    ]
+
+-- of two slopes that aren't rising, what an order says further
+tie : (p q : ℕ) (o : Ordering) → MatchOrdering o (p < q) (p ≡ q) (q < p) → p ≤ q → (b c : Ordering)
+    → is_lt (ordering_then (ordering_then o b) c) ≡ false → is_lt (ordering_then b c) ≡ false
+tie p q Less m le b c e = let bad : ⊥ = cc in absurd bad
+tie p q Equal m le b c e = e
+tie p q Greater m le b c e = absurd (omega arith)
+
+head_same : (t u : HullStep) (left : List HullStep) → IsHead t left → IsHead u left → t ≡ u
+head_same t u [] head other = absurd head
+head_same t u (v ∷ rest) head other = sym head ∙ other
+
+-- where the next step of a list is as steep as s, an entry that offers it, or a bound on it, and
+-- isn't above one that offers s has no lower block
+not_lower : (s t : HullStep) (left : List HullStep) (o : Offer) (a b : ℕ) → IsOffer left o
+    → IsHead t left → IsAsSteep t s
+    → is_lt (ordering_then (ordering_then (nat_cmp (s.gain * len_of o) (gain_of o * s.len))
+    (bool_cmp false (is_bound o))) (nat_cmp b a)) ≡ false → a ≤ b
+not_lower s t left Nothing a b is head steep e = absurd (subst (IsHead t) is head)
+not_lower s t left (Step u) a b is head steep e =
+    let le : s.gain * u.len ≤ u.gain * s.len =
+    subst (λ (v : HullStep). IsAsSteep v s) (head_same t u left head is) steep in
+    let p : ℕ = s.gain * u.len in
+    let q : ℕ = u.gain * s.len in
+    let then : is_lt (nat_cmp b a) ≡ false =
+    tie p q (nat_cmp p q) (ranked p q (nat_cmp p q) refl) le _ _ e in
+    not_less b a (nat_cmp b a) (ranked b a (nat_cmp b a) refl) then
+not_lower s t left (AtMost bound) a b is head steep e =
+    let below : IsNoSteeper bound t = at_head (IsNoSteeper bound) t left head is.1 in
+    let le : s.gain * bound.len ≤ bound.gain * s.len =
+    steep_by bound.gain bound.len t.gain t.len s.gain s.len t.longer below steep in
+    let p : ℕ = s.gain * bound.len in
+    let q : ℕ = bound.gain * s.len in
+    let then : true ≡ false =
+    tie p q (nat_cmp p q) (ranked p q (nat_cmp p q) refl) le _ _ e in
+    let bad : ⊥ = cc in absurd bad
+
+-- of equally steep steps a step at the top of the heap is that of the lowest block
+pub top_lowest : (w : Budgets) (o : Outcome) (offered : ℕ → Offer) (items rest : List Entry)
+    (x : Entry) (s : HullStep)
+    → IsQueue w.blocks offered items → IsPermutation items (x ∷ rest)
+    → IsUpperBound entry_cmp x rest → Covers w o items
+    → x.offer ≡ Step s → s.block ≡ x.block
+    → ((b : ℕ) → b < w.blocks → IsOffer (o.left b) (offered b))
+    → (b : ℕ) → b < w.blocks → nearest w o b ≡ None → (t : HullStep) → IsHead t (o.left b)
+    → IsAsSteep t s → s.block ≤ b
+top_lowest w o offered items rest x s queue same upper covers is own true_offers b inside is_open t
+    head steep =
+    elim (cases_eq b x.block) [
+      | inl here ↦ omega arith
+      | inr ne ↦ elim (covers b inside is_open) [
+        | inl none ↦ absurd (subst (IsHead t) none head)
+        | inr some ↦ (let c = popped_count w.blocks offered items rest x queue same b in
+            let z : is_at b x ≡ 0 = at_other b x (λ e. ne (sym e)) in
+            let q = popped_queue w.blocks offered items rest x queue same in
+            let f = found_at (λ e. IsEntry w.blocks offered e × (is_lt (entry_cmp x e) ≡ false)) b
+            rest (omega arith)
+            (both_all (IsEntry w.blocks offered) (λ e. is_lt (entry_cmp x e) ≡ false) rest q.each
+            upper) in
+            let offer : IsOffer (o.left b) f.0.offer =
+            subst (IsOffer (o.left b)) (ap offered (sym f.1) ∙ sym f.2.0.offer)
+            (true_offers b inside) in
+            let after : x.block ≤ f.0.block =
+            not_lower s t (o.left b) f.0.offer x.block f.0.block offer head steep
+            (subst (λ (p : Offer). is_lt (ordering_then
+            (ordering_then (nat_cmp (gain_of p * len_of f.0.offer) (gain_of f.0.offer * len_of p))
+            (bool_cmp (is_bound p) (is_bound f.0.offer))) (nat_cmp f.0.block x.block)) ≡ false) is
+            f.2.1) in
+            let same_block : f.0.block ≡ b = f.1 in
+            omega arith)
       ]
     ]

@@ -7,7 +7,7 @@ use Rattle.std.proofs.lemmas.Bool.Decides.{nat_tests}
 use Rattle.std.proofs.lemmas.List.{take_more}
 use Rattle.std.specs.List.{AllByRecursion}
 use Rattle.rd_hulls.specs.declared.step.Step.{Step}
-use Rattle.allocation_bound.specs.Budgets.{Closed, IsOn, nearer, first}
+use Rattle.allocation_bound.specs.Budgets.{Closed, IsChain, IsOn, nearer, first}
 use Rattle.allocation_bound.proofs.Take.{first_none}
 use Rattle.allocation_bound.proofs.Chains.{chain_below}
 use Rattle.budget_duals.specs.Tree.{IsTree, number_at, around_in, last_of, outermost}
@@ -127,6 +127,32 @@ is_broken limit held (k ∷ rest) j some = elim
     (some_cases limit held rest k j (outermost limit held rest) refl some) [
       | inl later ↦ (let h = is_broken limit held rest j later in (inr h.0, h.1))
       | inr here ↦ (inl here.0, subst (λ i. limit i < held i) here.0 here.1)
+    ]
+
+-- the outermost broken budget is further out, or it is this one and none of those is broken
+last_or_here : (limit held : ℕ → ℕ) (l : List ℕ) (k j : ℕ) (o : Option ℕ)
+    → outermost limit held l ≡ o
+    → last_of o (if nat_lt (limit k) (held k) then Some k else None) ≡ Some j
+    → (outermost limit held l ≡ Some j) ⊎ ((k ≡ j) × (outermost limit held l ≡ None))
+last_or_here limit held l k j (Some i) is e = inl (is ∙ e)
+last_or_here limit held l k j None is e = elim (two_ways (limit k) (held k)) [
+  | inl more ↦ (let b = broken_is (limit k) (held k) k more in
+      let both : Some k ≡ Some j = sym b ∙ e in
+      let same : k ≡ j = cc in
+      inr (same, is))
+  | inr fits ↦ (let b = fine_is (limit k) (held k) k fits in
+      let both : None ≡ Some j = sym b ∙ e in let bad : ⊥ = cc in absurd bad)
+]
+
+-- the budgets around the outermost broken one are within their limits
+pub outside_kept : (around : ℕ → List ℕ) (limit held : ℕ → ℕ) (l : List ℕ) (j : ℕ) → IsChain around l
+    → outermost limit held l ≡ Some j → (i : ℕ) → IsOn i (around j) → held i ≤ limit i
+outside_kept around limit held [] j is some i on = let bad : ⊥ = cc in absurd bad
+outside_kept around limit held (k ∷ rest) j is some i on = elim
+    (last_or_here limit held rest k j (outermost limit held rest) refl some) [
+      | inl later ↦ outside_kept around limit held rest j is.1 later i on
+      | inr here ↦ none_broken limit held rest here.1 i
+          (subst (IsOn i) (sym (is.0 ∙ ap around here.0)) on)
     ]
 
 -- the budgets around one are the tree's, and all of them have numbers below the tree's

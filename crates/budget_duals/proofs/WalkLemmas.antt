@@ -25,7 +25,7 @@ use Rattle.budget_duals.specs.Tree.{budgets_of}
 use Rattle.budget_duals.specs.Walking.{Walks, IsNextStep, CanWalk}
 use Rattle.budget_duals.proofs.QueueLemmas.{popped_entry, popped_queue, popped_count, popped_away}
 use Rattle.budget_duals.proofs.QueueLemmas.{queue_stays, refilled_queue, covers_on, covers_dropped}
-use Rattle.budget_duals.proofs.QueueLemmas.{falls_left, top_steepest}
+use Rattle.budget_duals.proofs.QueueLemmas.{falls_left, top_steepest, top_lowest}
 
 pub same_budgets : (t : Tree) (b c : ℕ) (n m : ℕ → ℕ) (h k : List ℕ → ℕ → ℕ) → b ≡ c → n ≡ m → h ≡ k
     → budgets_of t b n h ≡ budgets_of t c m k
@@ -62,7 +62,7 @@ module _ (w : Budgets) (steps : ℕ → List HullStep) (most : List ℕ) (o : Ou
           (own x.block top_entry.inside))
 
       splits : (b : ℕ) → b < w.blocks → o.done b ++ o.left b ≡ steps b
-      splits b inside = going.walks.1.kept.splits b inside
+      splits b inside = going.walks.stands.kept.splits b inside
 
       left_falls : (b : ℕ) → b < w.blocks → IsFalling (o.left b)
       left_falls b inside =
@@ -89,6 +89,8 @@ module _ (w : Budgets) (steps : ℕ → List HullStep) (most : List ℕ) (o : Ou
               steepest = top_steepest w o offered items rest x s going.queue popped upper
                   going.covers
                   is true_offers left_falls;
+              lowest = top_lowest w o offered items rest x s going.queue popped upper going.covers
+                  is top_own true_offers;
             },
           )
 
@@ -96,7 +98,7 @@ module _ (w : Budgets) (steps : ℕ → List HullStep) (most : List ℕ) (o : Ou
       top_can =
           let b : ℕ = x.block in
           let inside : b < w.blocks = top_entry.inside in
-          let from : get_or o.counts b 0 ≡ s.from = going.walks.1.kept.places b inside
+          let from : get_or o.counts b 0 ≡ s.from = going.walks.stands.kept.places b inside
           ∙ head_from s (o.done b) (o.left b) top_head
           (subst (FollowOn 0) (sym (splits b inside)) (can.follow b (in_most b inside))) in
           let to : s.to ≤ get_or most b 0 = at_head (λ (t : HullStep). t.to ≤ get_or most b 0) s
@@ -146,7 +148,7 @@ pub going_ended : (w : Budgets) (steps : ℕ → List HullStep) (o : Outcome) (o
     (items : List Entry)
     → IsGoing w steps o offered items → items ≡ [] → IsSettled w steps o
 going_ended w steps o offered items going empty =
-    walk_end w steps going.walks.0 o going.walks.1
+    walk_end w steps going.walks.front o going.walks.stands
     (λ b inside is_open. elim (going.covers b inside is_open) [
       | inl none ↦ none
       | inr some ↦ (let z : count_at b items ≡ 0 = ap (count_at b) empty in absurd (omega arith))

@@ -3,6 +3,7 @@ use Rattle.std.specs.Prelude.{ℕ, ◌≡◌, ◌<◌, List, length}
 use Rattle.rd_hulls.specs.declared.step.Step.{Step}
 use Rattle.allocation_bound.specs.Ledger.{rounded_up}
 use Rattle.allocation_bound.specs.Settled.{Budgets, Outcome, IsSettled, multiplier_of}
+use Rattle.allocation_bound.specs.Walk.{IsReached}
 use Rattle.allocation_bound.specs.Laws.{HasCertificate, excess_and_unused}
 use Rattle.budget_duals.specs.Tree.{number_at}
 
@@ -11,6 +12,8 @@ use Rattle.budget_duals.specs.Tree.{number_at}
 -- and refused steps bound the gap (`certificate`).
 pub record IsAllocated (w : Budgets) (steps : ℕ → List Step) (o : Outcome) (numbers : List ℕ)
     (g : ℕ) : Type 0 where
+  -- it is the end of a walk, by its moves
+  pub reached : IsReached w steps o
   pub settled : IsSettled w steps o
   pub certificate : HasCertificate w steps o
   pub long : length numbers ≡ w.number

@@ -8,6 +8,7 @@ use Rattle.allocation_bound.specs.Settled.{Budgets, AreBudgets, IsSettled, multi
 use Rattle.allocation_bound.specs.Settled.{block_rate}
 use Rattle.allocation_bound.specs.Steps.{cost, gains, lens}
 use Rattle.allocation_bound.specs.Sums.{upto, total}
+use Rattle.allocation_bound.specs.Walk.{IsReached}
 use Rattle.budget_duals.specs.Frame.{AreLow, AreMembers, refused_steps}
 use Rattle.budget_duals.specs.Tree.{closed_by, number_at}
 use Rattle.budget_duals.specs.Walking.{so_far, CanWalk}
@@ -44,6 +45,9 @@ pub record IsCertificate (w : Budgets) (steps : ℕ → List Step) (counts : Lis
   -- block has taken the first of its steps.
   pub closed : List (Option Step)
   pub settled : IsSettled w steps (so_far counts done left closed)
+  -- It is the end of a walk from no passes: each move takes the steepest step that open blocks have
+  -- left, or closes the outermost budget that it would break.
+  pub reached : IsReached w steps (so_far counts done left closed)
   -- the multipliers, over 2^32
   pub multipliers : (j : ℕ) → j < w.number
       → number_at c.multipliers j ≡ multiplier_of w (so_far counts done left closed) j

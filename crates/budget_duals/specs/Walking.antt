@@ -5,7 +5,7 @@ use Rattle.rd_hulls.specs.declared.step.Step.{Step}
 use Rattle.rd_hulls.specs.Steps.{IsFalling}
 use Rattle.allocation_bound.specs.Sums.{upto, total}
 use Rattle.allocation_bound.specs.Settled.{Budgets, Outcome}
-use Rattle.allocation_bound.specs.Walk.{Stands, IsNext}
+use Rattle.allocation_bound.specs.Walk.{Stands, IsNext, IsReached}
 use Rattle.allocation_bound.specs.Laws.{FollowOn}
 use Rattle.budget_duals.specs.Tree.{closed_by}
 
@@ -14,9 +14,11 @@ abbrev pub so_far : List ℕ → (ℕ → List Step) → (ℕ → List Step) →
 so_far counts done left closed = record
     { counts = counts; done = done; left = left; closed = closed_by closed }
 
--- the walk stands, whatever step was looked at last
-abbrev pub Walks : Budgets → (ℕ → List Step) → Outcome → Type 0
-Walks w steps o = (front : Step) × Stands w steps front o
+-- moves led here from the start, and the walk stands, whatever step was looked at last
+pub record Walks (w : Budgets) (steps : ℕ → List Step) (o : Outcome) : Type 0 where
+  pub front : Step
+  pub stands : Stands w steps front o
+  pub reached : IsReached w steps o
 
 -- the step that a move may look at
 abbrev pub IsNextStep : Budgets → Outcome → Step → Type 0

@@ -3,6 +3,7 @@ ghost use Rattle.std.specs.Prelude.{ℕ, ◌≡◌, ◌<◌, ◌≤◌, length};
 ghost use Rattle.std.specs.BinaryHeap.{heap_items, heap_len, heap_capacity};
 ghost use Rattle.std.specs.List.{AllByRecursion};
 ghost use Rattle.allocation_bound.specs.Settled.{AreBudgets, IsSettled};
+ghost use Rattle.allocation_bound.specs.Walk.{IsReached};
 ghost use Rattle.budget_duals.specs.Tree.{IsTree, budgets_of};
 ghost use Rattle.budget_duals.specs.Walking.{so_far, CanWalk};
 ghost use Rattle.budget_duals.specs.Going.{IsGoing};
@@ -40,6 +41,10 @@ pub(crate) fn walk<O: Offers, H: Holdings>(
     requires few { heap_len heap.old ≤ O.blocks offers.old }
     requires room { O.blocks offers.old ≤ heap_capacity heap.old }
     ensures settled { IsSettled
+        (budgets_of tree.now (O.blocks offers.old) (H.node_of held.old) (H.held_by held.old))
+        (O.left offers.old) (so_far (H.chosen held.new) (O.done offers.new) (O.left offers.new)
+        closed.new) }
+    ensures reached { IsReached
         (budgets_of tree.now (O.blocks offers.old) (H.node_of held.old) (H.held_by held.old))
         (O.left offers.old) (so_far (H.chosen held.new) (O.done offers.new) (O.left offers.new)
         closed.new) }

@@ -82,7 +82,8 @@ returns-clause-allocated g c =
     + upto v.number (λ j. number_at numbers j * (v.limit j - v.held o.counts j)))) same
     c.gap_of.ensures.gap in
     let all : IsAllocated w steps o numbers gap =
-    allocated w steps o numbers gap c.requires.budgets are c.walk.ensures.settled
+    allocated w steps o numbers gap c.requires.budgets are c.walk.ensures.reached
+    c.walk.ensures.settled
     (c.set_multipliers.ensures.len ∙ c.requires.multipliers) c.set_multipliers.ensures.each is in
     subst (λ (d : ℕ → List Step). IsAllocated w steps
     (so_far counts d (g.O.Offers.left c.gap_of.new.offers) closed) numbers gap)
